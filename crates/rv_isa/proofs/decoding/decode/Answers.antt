@@ -1,0 +1,10 @@
+use Rattle.std.proofs.Common.{arith, ap, ◌∙◌}
+use Rattle.rv_isa.specs.Table.{decode_fields}
+use Rattle.rv_isa.proofs.Round.{decoded, not_decoded}
+use Rattle.rv_isa.proofs.decoding.decode.Goals as goal
+
+pub returns-clause-some : goal.returns-clause-some
+returns-clause-some c = decoded c.args.word (omega arith) _ (c.instruction.ensures ∙ ap decode_fields c.fields_of.ensures)
+
+pub returns-clause-none : goal.returns-clause-none
+returns-clause-none c = not_decoded c.args.word _ (c.instruction.ensures ∙ ap decode_fields c.fields_of.ensures)
