@@ -3,9 +3,16 @@
 //! Definitions and laws alone. The meaning of programs is stated over them, and that of compiled code will be too.
 #![tactic(auto)]
 
-ghost use Rattle.run_model.specs.Laws.{GoesOnWithMoreSteps};
+ghost use Rattle.run_model.specs.Laws.{GoesOnWithMoreSteps, PlaysInOrder};
 
 /// A run that may begin more steps goes on where the shorter one stopped.
 pub fn longer_runs_law()
     ensures { GoesOnWithMoreSteps }
-{}
+{
+}
+
+/// Acts are played in their order.
+pub fn order_law()
+    ensures { PlaysInOrder }
+{
+}
