@@ -1,0 +1,4 @@
+pub mod Memory
+pub mod Machine
+pub mod Runs
+pub mod Kept
