@@ -331,14 +331,17 @@ back_fields f h i e = go (find_key opcode_of groups f.opcode) refl e
 
 -- [decode (encode i)] is i
 pub decode-encode : (i : Inst) → InRange i → decode_word (encode_word i) ≡ Some i
+unfolding decode_word encode_word
 decode-encode i r = ap decode_fields (fields-word (encode_fields i) (width_of i r)) ∙ round_fields i r
 
 pub encode-decode : (w : ℕ) → w < 2 ^ 32 → (i : Inst) → decode_word w ≡ Some i → IsDecoded w i
+unfolding decode_word encode_word
 encode-decode w h i e =
     let b = back_fields (fields w) (fields-in_width w h) i e in
     record { range = b.range; word_is = ap word b.same ∙ word-fields w h }
 
 pub word-below : (i : Inst) → InRange i → encode_word i < 2 ^ 32
+unfolding encode_word
 word-below i r = let h = width_of i r in omega arith
 
 -- ---- for the contracts

@@ -151,7 +151,7 @@ encode_fields Ecall = i_fields (opcode_of Calls) 0 0 0 0
 encode_fields Ebreak = i_fields (opcode_of Calls) 0 0 0 1
 
 -- the word of an instruction
-abbrev pub encode_word : Inst → ℕ
+unfoldable pub encode_word : Inst → ℕ
 encode_word i = word (encode_fields i)
 
 -- Ranges.
@@ -249,7 +249,7 @@ decode_in f (Some g) = decode_group f g
 abbrev pub decode_fields : Fields → Option Inst
 decode_fields f = decode_in f (find_key opcode_of groups f.opcode)
 
-abbrev pub decode_word : ℕ → Option Inst
+unfoldable pub decode_word : ℕ → Option Inst
 decode_word w = decode_fields (fields w)
 
 -- the instruction of a word, in its ranges
