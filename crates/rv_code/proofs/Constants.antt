@@ -10,8 +10,8 @@ use Rattle.rv_isa.specs.declared.inst.ImmWordOp.TheVariants.{Addiw}
 use Rattle.rv_isa.specs.Layout.{signed}
 use Rattle.rv_machine.specs.declared.outcome.Outcome.TheVariants.{Running}
 use Rattle.rv_machine.specs.Machine.{State, run, output, set_reg, set, next, bits_of, widened, exec, prints}
-use Rattle.rv_code.specs.Line.{HasAt, Goes, upper, lower, digit, distance, IsNear, PairReaches}
-use Rattle.rv_code.specs.Pieces.{Ready, after, ConstantGoes}
+use Rattle.rv_code.specs.Line.{HasAt, Goes, upper, lower, digit, distance, PairReaches}
+use Rattle.rv_code.specs.Pieces.{after, ConstantGoes}
 use Rattle.rv_code.proofs.Lines.{step_at, tail, ends}
 
 -- ---- values
@@ -154,4 +154,3 @@ pair_value p to hp ht near = go (distance p to) refl (bits_of (upper (distance p
     go D e a b (low p0 q0) (high p1 q1) = omega arith
     go D e a b (high p0 q0) (low p1 q1) = omega arith
     go D e a b (high p0 q0) (high p1 q1) = omega arith
-

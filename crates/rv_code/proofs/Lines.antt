@@ -1,5 +1,5 @@
 -- Runs of straight-line code, piece by piece.
-use Rattle.std.proofs.Common.{◌≡◌, ℕ, suc, ◌+◌, ◌*◌, ◌^◌, ◌≤◌, ◌<◌, List, [], ◌∷◌, ◌++◌, length, true, refl, ap, ◌∙◌, append-nil, subst, arith}
+use Rattle.std.proofs.Common.{◌≡◌, ℕ, suc, ◌+◌, ◌*◌, ◌≤◌, List, [], ◌∷◌, ◌++◌, length, true, refl, ap, ◌∙◌, append-nil, subst, arith}
 use Rattle.std.proofs.lemmas.Bool.Decides.{nat_tests}
 use Rattle.rv_isa.specs.declared.inst.Inst.{Inst}
 use Rattle.rv_isa.specs.Table.{encode_word}
@@ -69,5 +69,7 @@ ready_saved s is js regs n to v l h =
     record {
       runs = h.runs;
       here = code_stays s.mem s.code_end (s.pc + 4 * length is) n to v js (omega arith) (has-rest s.mem s.code_end s.pc is js h.here);
-      apart = h.apart; within = h.within; below = h.below;
+      apart = h.apart;
+      within = h.within;
+      below = h.below;
     }

@@ -1,7 +1,7 @@
 -- Reads after writes.
 use Rattle.std.proofs.Common.{◌≡◌, ℕ, zero, suc, ◌+◌, ◌*◌, ◌/◌, ◌%◌, ◌^◌, ◌≤◌, ◌<◌, [], ◌∷◌, cond, refl, ap, ◌∙◌, arith, ◌⊎◌, inl, eq-eqb, ne_eqb}
 use Rattle.std.proofs.lemmas.Nat.{mod-pow-add}
-use Rattle.rv_machine.specs.Memory.{Memory, put_byte, read, write}
+use Rattle.rv_machine.specs.Memory.{Memory, put_byte, write}
 use Rattle.rv_code.specs.Line.{nil, more, CodeStays, ReadOther, ReadSame}
 
 pub write_other : (n a v x : ℕ) (m : Memory) → (x < a) ⊎ (a + n ≤ x) → write n a v m x ≡ m x
