@@ -8,6 +8,8 @@ mod laws;
 mod machine;
 mod memory;
 mod outcome;
+#[cfg(test)]
+mod tests;
 
 pub use kept::Machine;
 pub use laws::{end_law, run_law};
