@@ -1,11 +1,12 @@
 //! Instructions, steps and runs.
 
-ghost use Rattle.std.specs.Prelude.{◌≡◌, ◌≢◌, ℕ, ◌<◌, ◌%◌, OnOk, OnErr, [], IfOk, IfSome, IsErr, IsTrue, false};
+ghost use Rattle.std.specs.Prelude.{◌≡◌, ◌≢◌, ℕ, ◌<◌, ◌%◌, length, OnOk, OnErr, [], IfOk, IfSome, IsErr, IsTrue, false};
 ghost use Rattle.std.specs.Io.KnownBytes.{Appends};
 ghost use Rattle.rn_ports.specs.Causes.{HasCause};
 ghost use Rattle.rn_ports.specs.Sent.{AppendsPart};
 ghost use Rattle.rv_isa.specs.Table.{InRange, InImmediate, is_shift, imm_key};
 ghost use Rattle.rv_machine.specs.Machine.{set, next, trap, imm_value, reg_value, imm_word_value, exec, prints, linked, IsQuiet, set_or_trap, fetched, is_fetchable, step, step_prints, run, output, bits_of};
+ghost use Rattle.rv_machine.specs.Lines.{within_line};
 ghost use Rattle.rv_machine.specs.Runs.{IsPart};
 ghost use Rattle.rv_machine.specs.Kept.{state_of};
 
@@ -191,12 +192,14 @@ impl Machine {
     }
 
     // One step of a machine that runs.
-    fn step<O: Sink>(&mut self, out: &mut O) -> Result<(), WriteFault>
+    fn step<O: Sink>(&mut self, out: &mut O, within: &mut bool) -> Result<(), WriteFault>
         requires { (state_of self.old).outcome ≡ Outcome.Running }
         ensures stands { OnOk result (state_of self.new ≡ step (state_of self.old)) }
         ensures writes { OnOk result (Appends (O.written out.old) (O.written out.new) (step_prints (state_of self.old))) }
         ensures stays { OnErr result (state_of self.new ≡ state_of self.old) }
         ensures front { OnErr result (AppendsPart (O.written out.old) (O.written out.new) (step_prints (state_of self.old))) }
+        ensures line { OnOk result (within.new ≡ within_line within.old (step_prints (state_of self.old))) }
+        ensures some { OnErr result (0 < length (step_prints (state_of self.old))) }
         ensures cause { HasCause (O.faults out.old) (O.faults out.new) (IsErr result) }
     {
         if !self.is_fetchable() {
@@ -205,7 +208,7 @@ impl Machine {
         }
         match self.fetch() {
             None => self.trap(TrapCause::UnknownWord),
-            Some(Inst::Ecall) => return self.call(out),
+            Some(Inst::Ecall) => return self.call(out, within),
             Some(inst) => self.execute(inst),
         }
         Ok(())
@@ -229,13 +232,30 @@ impl Machine {
         ensures writes { OnOk result (Appends (O.written out.old) (O.written out.new) (output steps (state_of self.old))) }
         ensures stopped { OnErr result (IsPart (state_of self.old) steps (state_of self.new) (O.written out.old) (O.written out.new)) }
         ensures front { AppendsPart (O.written out.old) (O.written out.new) (output steps (state_of self.old)) }
+        ensures some { OnErr result (0 < length (output steps (state_of self.old))) }
+        ensures cause { HasCause (O.faults out.old) (O.faults out.new) (IsErr result) }
+    {
+        let mut within = false;
+        self.run_by_line(steps, out, &mut within)
+    }
+
+    /// Runs in the same way. `within` tells whether the output stands within a line: before the call that before it,
+    /// and after a call that didn't fail that of all.
+    pub fn run_by_line<O: Sink>(&mut self, steps: u64, out: &mut O, within: &mut bool) -> Result<Outcome, WriteFault>
+        ensures stands { OnOk result (state_of self.new ≡ run steps (state_of self.old)) }
+        ensures outcome { IfOk result (λ o. o ≡ (state_of self.new).outcome) }
+        ensures writes { OnOk result (Appends (O.written out.old) (O.written out.new) (output steps (state_of self.old))) }
+        ensures line { OnOk result (within.new ≡ within_line within.old (output steps (state_of self.old))) }
+        ensures stopped { OnErr result (IsPart (state_of self.old) steps (state_of self.new) (O.written out.old) (O.written out.new)) }
+        ensures front { AppendsPart (O.written out.old) (O.written out.new) (output steps (state_of self.old)) }
+        ensures some { OnErr result (0 < length (output steps (state_of self.old))) }
         ensures cause { HasCause (O.faults out.old) (O.faults out.new) (IsErr result) }
     {
         for _step in 0..steps {
             if !self.is_running() {
                 return Ok(self.outcome);
             }
-            self.step(out)?;
+            self.step(out, within)?;
         }
         Ok(self.outcome)
     }

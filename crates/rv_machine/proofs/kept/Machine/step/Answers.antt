@@ -1,9 +1,11 @@
-use Rattle.std.proofs.Common.{◌≡◌, ℕ, List, true, false, Some, None, ◌∙◌, sym, ap, subst}
+use Rattle.std.proofs.Common.{◌≡◌, ℕ, ◌<◌, List, length, true, false, Some, None, ◌∙◌, sym, ap, subst}
 use Rattle.std.specs.Io.KnownBytes.{Appends}
 use Rattle.rn_ports.specs.Sent.{AppendsPart}
 use Rattle.rv_isa.specs.declared.inst.Inst.TheVariants.{Ecall}
 use Rattle.rv_machine.specs.Machine.{is_fetchable, fetched, step_prints}
 use Rattle.rv_machine.specs.Kept.{state_of}
+use Rattle.rv_machine.specs.Lines.{within_line}
+use Rattle.rv_machine.proofs.Breaks.{line_none}
 use Rattle.rv_machine.proofs.Steps.{step_fetched, step_unmapped, writes_none, on_ok, on_err}
 use Rattle.rv_machine.proofs.kept.Machine.step.Goals as goal
 
@@ -67,3 +69,37 @@ returns-in-Some-clause-writes g c =
     let f : is_fetchable s ≡ true = sym c.is_fetchable.ensures ∙ c.if-not-is_fetchable.false in
     let o : fetched s ≡ Some c.in-Some.inst = sym c.fetch.ensures.value ∙ c.in-Some.is in
     writes_none (g.O.Sink.written c.args.out.now) (step_prints s) ((step_fetched s _ c.requires f o).prints ∙ c.execute.ensures.quiet)
+
+pub returns-then-not-is_fetchable-clause-line : goal.returns-then-not-is_fetchable-clause-line
+returns-then-not-is_fetchable-clause-line g c =
+    let s = state_of c.args.self.now in
+    let f : is_fetchable s ≡ false = sym c.is_fetchable.ensures ∙ c.if-not-is_fetchable.true in
+    line_none c.args.within.now (step_prints s) (step_unmapped s c.requires f).prints
+
+pub returns-in-Some-Ecall-clause-line : goal.returns-in-Some-Ecall-clause-line
+returns-in-Some-Ecall-clause-line g c =
+    let s = state_of c.args.self.now in
+    let f : is_fetchable s ≡ true = sym c.is_fetchable.ensures ∙ c.if-not-is_fetchable.false in
+    let o : fetched s ≡ Some Ecall = sym c.fetch.ensures.value ∙ c.in-Some-Ecall.is ∙ ap Some c.in-Some-Ecall.field-0-is in
+    on_ok c.call.result (λ e. e ∙ sym (ap (within_line c.args.within.now) (step_fetched s _ c.requires f o).prints)) c.call.ensures.line
+
+pub returns-in-Some-Ecall-clause-some : goal.returns-in-Some-Ecall-clause-some
+returns-in-Some-Ecall-clause-some g c =
+    let s = state_of c.args.self.now in
+    let f : is_fetchable s ≡ true = sym c.is_fetchable.ensures ∙ c.if-not-is_fetchable.false in
+    let o : fetched s ≡ Some Ecall = sym c.fetch.ensures.value ∙ c.in-Some-Ecall.is ∙ ap Some c.in-Some-Ecall.field-0-is in
+    on_err c.call.result (subst (λ (x : List ℕ). 0 < length x) (sym (step_fetched s _ c.requires f o).prints)) c.call.ensures.some
+
+pub returns-in-None-clause-line : goal.returns-in-None-clause-line
+returns-in-None-clause-line g c =
+    let s = state_of c.args.self.now in
+    let f : is_fetchable s ≡ true = sym c.is_fetchable.ensures ∙ c.if-not-is_fetchable.false in
+    let o : fetched s ≡ None = sym c.fetch.ensures.value ∙ c.in-None.is in
+    line_none c.args.within.now (step_prints s) (step_fetched s _ c.requires f o).prints
+
+pub returns-in-Some-clause-line : goal.returns-in-Some-clause-line
+returns-in-Some-clause-line g c =
+    let s = state_of c.args.self.now in
+    let f : is_fetchable s ≡ true = sym c.is_fetchable.ensures ∙ c.if-not-is_fetchable.false in
+    let o : fetched s ≡ Some c.in-Some.inst = sym c.fetch.ensures.value ∙ c.in-Some.is in
+    line_none c.args.within.now (step_prints s) ((step_fetched s _ c.requires f o).prints ∙ c.execute.ensures.quiet)

@@ -1,11 +1,13 @@
-use Rattle.std.proofs.Common.{ℕ, ◌+◌, List, subst, arith, sym, ◌∙◌}
+use Rattle.std.proofs.Common.{ℕ, ◌+◌, List, subst, arith, sym, ap, ◌∙◌}
 use Rattle.std.specs.Io.KnownBytes.{Appends}
 use Rattle.rn_ports.proofs.Sending.{part_all}
 use Rattle.rv_machine.specs.Machine.{State, output}
 use Rattle.rv_machine.specs.Runs.{IsOver}
 use Rattle.rv_machine.specs.Kept.{state_of}
 use Rattle.rv_machine.proofs.Steps.{over_unless, stays, run-more, err_given, written_more, part_more, part_grows}
-use Rattle.rv_machine.proofs.kept.Machine.run.Goals as goal
+use Rattle.rv_machine.specs.Lines.{within_line}
+use Rattle.rv_machine.proofs.Breaks.{line_more, some_more}
+use Rattle.rv_machine.proofs.kept.Machine.run_by_line.Goals as goal
 
 pub returns-then-not-is_running-clause-stands : goal.returns-then-not-is_running-clause-stands
 returns-then-not-is_running-clause-stands g c =
@@ -36,6 +38,7 @@ loop-step-preserved g c =
     record {
       stands = e.stands ∙ sym (run-more c.loop-step._step s m i.stands);
       writes = written_more (g.O.Sink.written c.args.out.now) (g.O.Sink.written c.loop-step.out) (g.O.Sink.written c.step.new.out) c.loop-step._step s m i.stands i.writes e.writes;
+      line = line_more c.args.within.now c.loop-step.within c.step.new.within c.loop-step._step s m i.stands i.line e.line;
       later = omega (arith, i.later, e.cause.later);
     }
 
@@ -60,3 +63,15 @@ returns-in_err-step-clause-front g c =
     let e = c.in_err-step.ensures in
     part_grows (g.O.Sink.written c.args.out.now) (g.O.Sink.written c.step.new.out) (c.loop-step._step + 1) c.args.steps s (omega arith)
     (part_more (g.O.Sink.written c.args.out.now) (g.O.Sink.written c.loop-step.out) (g.O.Sink.written c.step.new.out) c.loop-step._step s m i.stands i.writes e.front)
+
+pub returns-then-not-is_running-clause-line : goal.returns-then-not-is_running-clause-line
+returns-then-not-is_running-clause-line g c =
+    let i = c.loop-step.invariant in
+    let o = subst (λ (x : State). IsOver x) i.stands (over_unless (state_of c.loop-step.self) (c.is_running.ensures.no c.if-not-is_running.true)) in
+    i.line ∙ sym (ap (within_line c.args.within.now) (stays (state_of c.args.self.now) c.loop-step._step c.args.steps (omega arith) o).prints)
+
+pub returns-in_err-step-clause-some : goal.returns-in_err-step-clause-some
+returns-in_err-step-clause-some g c =
+    let i = c.loop-step.invariant in
+    err_given c.from_residual.result
+    (some_more c.loop-step._step c.args.steps (state_of c.args.self.now) (state_of c.loop-step.self) i.stands (omega arith) c.in_err-step.ensures.some)
