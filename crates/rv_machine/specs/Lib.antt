@@ -1,0 +1,5 @@
+pub mod Memory
+pub mod Machine
+pub mod Lines
+pub mod Runs
+pub mod Kept
