@@ -16,3 +16,6 @@ pub use source::MemSource;
 pub use standard::{FreeGate, Reading, StdinSource, StdoutSink, Writing};
 pub use tally::ListTally;
 pub use whole::{ReadRefused, read_whole, write_whole};
+
+#[cfg(test)]
+mod tests;
