@@ -1,5 +1,5 @@
 -- Where an output stands behind one more piece.
-use Rattle.std.proofs.Common.{◌≡◌, ℕ, ◌+◌, ◌-◌, ◌≤◌, ◌<◌, Bool, not, nat_eq, List, [], ◌∷◌, ◌++◌, length, length-append, refl, sym, ap, ◌∙◌, subst, arith}
+use Rattle.std.proofs.Common.{◌≡◌, ℕ, ◌+◌, ◌-◌, ◌≤◌, ◌<◌, Bool, not, nat_eq, List, [], ◌∷◌, ◌++◌, length, length-append, refl, sym, ap, ◌∙◌, arith}
 use Rattle.rv_machine.specs.Lines.{within_line}
 use Rattle.rv_machine.specs.Machine.{State, step_prints, run, output}
 use Rattle.rv_machine.proofs.Steps.{output-more, output-grows}

@@ -3,3 +3,4 @@ pub mod Machine
 pub mod Lines
 pub mod Runs
 pub mod Kept
+pub mod Start

@@ -5,6 +5,7 @@ mod bytes;
 mod calls;
 mod kept;
 mod laws;
+mod loading;
 mod machine;
 mod memory;
 mod outcome;
@@ -13,4 +14,5 @@ mod tests;
 
 pub use kept::Machine;
 pub use laws::{end_law, run_law};
+pub use loading::ElfRefused;
 pub use outcome::{Outcome, TrapCause, WriteFault};

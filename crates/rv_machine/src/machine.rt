@@ -241,7 +241,12 @@ impl Machine {
 
     /// Runs in the same way. `within` tells whether the output stands within a line: before the call that before it,
     /// and after a call that didn't fail that of all.
-    pub fn run_by_line<O: Sink>(&mut self, steps: u64, out: &mut O, within: &mut bool) -> Result<Outcome, WriteFault>
+    pub fn run_by_line<O: Sink>(
+        &mut self,
+        steps: u64,
+        out: &mut O,
+        within: &mut bool,
+    ) -> Result<Outcome, WriteFault>
         ensures stands { OnOk result (state_of self.new ≡ run steps (state_of self.old)) }
         ensures outcome { IfOk result (λ o. o ≡ (state_of self.new).outcome) }
         ensures writes { OnOk result (Appends (O.written out.old) (O.written out.new) (output steps (state_of self.old))) }

@@ -28,7 +28,7 @@ impl Machine {
         self.data_at <= at && at <= memory_end && count <= memory_end - at
     }
 
-    fn load(&self, count: usize, at: u64) -> u64
+    fn read_value(&self, count: usize, at: u64) -> u64
         requires count { count ≤ 8 }
         requires mapped { IsTrue (is_readable count at (state_of self.now)) }
         ensures { result ≡ read count (state_of self.now).mem at }
@@ -40,7 +40,7 @@ impl Machine {
         }
     }
 
-    fn store(&mut self, count: usize, at: u64, value: u64)
+    fn write_value(&mut self, count: usize, at: u64, value: u64)
         requires count { count ≤ 8 }
         requires mapped { IsTrue (is_writable count at (state_of self.old)) }
         ensures { state_of self.new ≡ stored count at value (state_of self.old) }
@@ -61,7 +61,7 @@ impl Machine {
         } else if !self.is_readable(count as u64, at) {
             self.trap(TrapCause::Unmapped);
         } else {
-            let value = self.load(count, at);
+            let value = self.read_value(count, at);
             self.set(index, value);
             self.advance();
         }
@@ -77,7 +77,7 @@ impl Machine {
         } else if !self.is_writable(count as u64, at) {
             self.trap(TrapCause::Unmapped);
         } else {
-            self.store(count, at, value);
+            self.write_value(count, at, value);
             self.advance();
         }
     }

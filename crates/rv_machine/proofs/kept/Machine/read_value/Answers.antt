@@ -2,7 +2,7 @@ use Rattle.std.proofs.Common.{ℕ, ◌+◌, ◌-◌, ◌≤◌, arith, ap, ◌�
 use Rattle.std.proofs.lemmas.Bool.Decides.{nat_tests}
 use Rattle.rv_machine.specs.Memory.{read}
 use Rattle.rv_machine.proofs.Wholes.{read_low, read_high}
-use Rattle.rv_machine.proofs.kept.Machine.load.Goals as goal
+use Rattle.rv_machine.proofs.kept.Machine.read_value.Goals as goal
 
 pub returns-then-at-self : goal.returns-then-at-self
 returns-then-at-self c =

@@ -4,7 +4,7 @@ use Rattle.rv_machine.specs.Memory.{write}
 use Rattle.std.proofs.lemmas.List.{with_items_is}
 use Rattle.rv_machine.specs.Kept.{state_of, whole}
 use Rattle.rv_machine.proofs.Wholes.{store_whole}
-use Rattle.rv_machine.proofs.kept.Machine.store.Goals as goal
+use Rattle.rv_machine.proofs.kept.Machine.write_value.Goals as goal
 
 pub returns : goal.returns
 returns c =
