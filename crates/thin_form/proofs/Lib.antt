@@ -1,0 +1,5 @@
+pub mod Literals
+pub mod OneForm
+pub mod Sequences
+pub mod Values
+pub mod Words

@@ -1,6 +1,9 @@
 //! The statements of thin programs.
 #![tactic(auto)]
 
+mod forms;
 mod statement;
+mod term;
 
+pub use forms::{form, one_form};
 pub use statement::{Addend, Item, Sign, Statement, Term};
