@@ -1,5 +1,8 @@
+pub mod Faults
 pub mod Literals
 pub mod OneForm
 pub mod Sequences
+pub mod Shapes
+pub mod Steps
 pub mod Values
 pub mod Words

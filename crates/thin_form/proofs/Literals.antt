@@ -108,6 +108,9 @@ front_shorter_by : {b : ℕ} → Byte b → 0 < length (doubled b)
 front_shorter_by (quote e d) = omega (arith, ap length d)
 front_shorter_by (other n d) = omega (arith, ap length d)
 
+pub doubled_filled : (b : ℕ) → 0 < length (doubled b)
+doubled_filled b = front_shorter_by (byte b)
+
 pub front_shorter : {text rest : Text} {b : ℕ} → FrontByte text b rest → length rest < length text
 front_shorter {rest = rest} {b = b} front = omega (arith, ap length front.cut, length-append (doubled b) rest, front_shorter_by (byte b))
 

@@ -4,6 +4,8 @@
 mod forms;
 mod statement;
 mod term;
+mod thin;
 
 pub use forms::{form, one_form};
 pub use statement::{Addend, Item, Sign, Statement, Term};
+pub use thin::read_thin;
