@@ -1,6 +1,7 @@
 pub mod Faults
 pub mod Literals
 pub mod OneForm
+pub mod Reading
 pub mod Sequences
 pub mod Shapes
 pub mod Steps

@@ -88,10 +88,10 @@ fn literal(alloc: Global, text: &[u8]) -> Result<Option<(List<u8>, &[u8])>, Allo
         bytes.push(b)?;
         rest = after;
     }
-    let Some(after) = behind_byte(rest, b'\'') else {
-        return Ok(None);
-    };
-    Ok(Some((bytes, after)))
+    match behind_byte(rest, b'\'') {
+        Some(after) => Ok(Some((bytes, after))),
+        None => Ok(None),
+    }
 }
 
 /// An item behind its comma, and the text behind it.
@@ -177,10 +177,10 @@ pub fn form(alloc: Global, text: &[u8]) -> Result<Option<Statement>, AllocError>
     let Some(rest) = behind_print(text) else {
         return assignment(alloc, text);
     };
-    match items(alloc, rest)? {
-        Some(all) => Ok(Some(Statement::Print(all))),
-        None => Ok(None),
-    }
+    let Some(all) = items(alloc, rest)? else {
+        return Ok(None);
+    };
+    Ok(Some(Statement::Print(all)))
 }
 
 /// A statement text has at most one form.

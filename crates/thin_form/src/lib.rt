@@ -9,3 +9,6 @@ mod thin;
 pub use forms::{form, one_form};
 pub use statement::{Addend, Item, Sign, Statement, Term};
 pub use thin::read_thin;
+
+#[cfg(test)]
+mod tests;

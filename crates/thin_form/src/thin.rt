@@ -149,8 +149,8 @@ pub fn read_thin(alloc: Global, text: &[u8]) -> Result<List<Statement>, Refused>
         reader = take_line(alloc, reader, line, number)?;
         rest = after;
     }
-    if !reader.ended {
-        return Err(refusal(alloc, number + 1));
+    if reader.ended {
+        return Ok(reader.body);
     }
-    Ok(reader.body)
+    Err(refusal(alloc, number + 1))
 }

@@ -11,8 +11,8 @@ byte-preserved c =
       never = λ never. c.byte.invariant.never (never_more front never);
     }
 
-pub returns-in_default-behind_byte : goal.returns-in_default-behind_byte
-returns-in_default-behind_byte c = c.byte.invariant.never (never_without (c.in_default.ensures {u = tt}) (c.in_default-behind_byte.ensures {u = tt}))
-
 pub returns : goal.returns
-returns c = rw (← append-nil c.byte.bytes) (c.byte.invariant.closes [] _ (closes_here 39 (c.in-Some-behind_byte.ensures {u = tt}) (c.in_default.ensures {u = tt})))
+returns c = c.byte.invariant.never (never_without (c.in_default.ensures {u = tt}) (c.in-None.ensures {u = tt}))
+
+pub returns-in-Some-behind_byte : goal.returns-in-Some-behind_byte
+returns-in-Some-behind_byte c = rw (← append-nil c.byte.bytes) (c.byte.invariant.closes [] _ (closes_here 39 (c.in-Some-behind_byte.ensures {u = tt}) (c.in_default.ensures {u = tt})))
