@@ -1,8 +1,8 @@
 -- A line that is filled with blanks to column 72.
-use Rattle.std.proofs.Common.{◌≡◌, ℕ, zero, suc, ◌+◌, ◌<◌, ◌≤◌, Bool, true, false, ◌&&◌, ◌||◌, ◌==◌, List, [], ◌∷◌, ◌++◌, length, take, drop, get_or, map, min, replicate, ap, sym, ◌∙◌, refl, arith, length-append, length-take}
+use Rattle.std.proofs.Common.{◌≡◌, ℕ, zero, suc, ◌<◌, true, ◌&&◌, ◌||◌, ◌==◌, [], ◌∷◌, ◌++◌, length, take, get_or, map, min, replicate, ap, sym, ◌∙◌, refl, arith, length-append, length-take}
 use Rattle.std.specs.List.{list_all, range_with_len}
-use Rattle.std.proofs.lemmas.List.{ext_get_or, get_or-take, length-map, length-replicate}
-use Rattle.std.proofs.lemmas.List.FromFn.{get_or-map-range_with_len, length-range_with_len}
+use Rattle.std.proofs.lemmas.List.{ext_get_or, get_or-take, length-replicate}
+use Rattle.std.proofs.lemmas.List.FromFn.{get_or-map-range_with_len}
 use Rattle.fixed_form.specs.Lines.{Text}
 use Rattle.fixed_form.specs.Cards.{columns, is_blank, is_comment}
 
@@ -29,7 +29,7 @@ columns_by_index line =
     let long : length (columns line) ≡ length (map (λ k. get_or line k 32) (range_with_len 0 72)) = columns_long line in
     ext_get_or 32 (columns line) (map (λ k. get_or line k 32) (range_with_len 0 72)) long
     (λ i h. let below : i < 72 = omega (arith, columns_long line, h) in
-      column_at line i below ∙ sym (get_or-map-range_with_len (λ k. get_or line k 32) 0 72 i i 32 below (omega arith)))
+    column_at line i below ∙ sym (get_or-map-range_with_len (λ k. get_or line k 32) 0 72 i i 32 below (omega arith)))
 
 -- ---- blank columns
 

@@ -1,5 +1,5 @@
 -- Lines by their columns. Columns are numbered from 1 in the comments, and from 0 in lists.
-use Rattle.std.specs.Prelude.{◌≡◌, ℕ, ◌+◌, ◌-◌, ◌*◌, Bool, true, false, not, ◌||◌, ◌&&◌, List, [], ◌∷◌, ◌++◌, if◌then◌else◌, ◌==◌, nat_le, slice_index, fold, take, drop, replicate}
+use Rattle.std.specs.Prelude.{ℕ, ◌+◌, ◌-◌, ◌*◌, Bool, false, not, ◌||◌, ◌&&◌, [], ◌∷◌, ◌++◌, if◌then◌else◌, ◌==◌, nat_le, slice_index, fold, take, drop, replicate}
 use Rattle.std.specs.List.{list_all}
 use Rattle.fixed_form.specs.Lines.{Text}
 

@@ -1,5 +1,5 @@
 -- The lines of a text.
-use Rattle.std.specs.Prelude.{◌≡◌, ℕ, ◌+◌, List, [], ◌∷◌, if◌then◌else◌, ◌==◌, ◌&&◌, Bool, true, false, ◌<◌, ◌≤◌, length, take, slice_index}
+use Rattle.std.specs.Prelude.{◌≡◌, ℕ, List, [], ◌∷◌, if◌then◌else◌, ◌==◌, ◌&&◌, Bool, false, ◌<◌, ◌≤◌, length, take, slice_index}
 
 abbrev pub Text : Type 0
 Text = List ℕ

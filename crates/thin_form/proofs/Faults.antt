@@ -1,5 +1,5 @@
 -- The line of the fault.
-use Rattle.std.proofs.Common.{◌≡◌, ℕ, zero, suc, ◌+◌, ◌<◌, ◌≤◌, Bool, true, false, List, [], ◌∷◌, ◌++◌, length, take, drop, get_or, sum_by, replicate, ap, sym, ◌∙◌, subst, refl, arith, append_assoc, length-append}
+use Rattle.std.proofs.Common.{◌≡◌, ℕ, ◌+◌, ◌<◌, ◌≤◌, Bool, true, false, List, [], ◌∷◌, ◌++◌, length, take, get_or, sum_by, replicate, ap, sym, ◌∙◌, subst, refl, arith, append_assoc, length-append}
 use Rattle.std.specs.List.{All}
 use Rattle.std.proofs.lemmas.List.{append-nil}
 use Rattle.std.proofs.lemmas.List.Sums.{sum_by_push, sum_by-append, sum_by-cons}
@@ -7,13 +7,13 @@ use Rattle.std.proofs.Math.ListN.{get_or-append}
 use Rattle.std.proofs.Math.Seq.{get_or-append_seam}
 use Rattle.fixed_form.specs.declared.fault.Refused.{Refused}
 use Rattle.fixed_form.specs.declared.fault.Refused.TheVariants.{Fault, OutOfMemory}
-use Rattle.fixed_form.specs.Lines.{Text, lines_of}
+use Rattle.fixed_form.specs.Lines.{Text}
 use Rattle.fixed_form.specs.Cards.{columns, is_blank, is_comment, text_from}
 use Rattle.thin_form.specs.declared.statement.Statement.{Statement}
 use Rattle.thin_form.specs.declared.statement.Statement.TheVariants.{Assign, Print, End}
 use Rattle.thin_form.specs.Forms.{end}
 use Rattle.thin_form.specs.Programs.{tokens_of, IsPlain}
-use Rattle.thin_form.specs.Progress.{is_end, NoStatement, StateIs, GoesOn, Stands, RefusesAt}
+use Rattle.thin_form.specs.Progress.{is_end, NoStatement, Stands, RefusesAt}
 use Rattle.thin_form.specs.Texts.{text_of, is_comment_line, IsStatementLine, Spells, nothing, comment, statement, IsNoEnd, IsThin, Begins, IsFaultLine, at_line, at_end, Explains}
 use Rattle.thin_form.proofs.Words.{false_true}
 use Rattle.thin_form.proofs.OneForm.{form_only}

@@ -1,8 +1,6 @@
 -- Literals: where one closes.
-use Rattle.std.proofs.Common.{◌≡◌, ◌≢◌, ℕ, ◌+◌, ◌<◌, ◌≤◌, Bool, true, false, ◌==◌, List, [], ◌∷◌, ◌++◌, length, flat_map, ap, sym, ◌∙◌, subst, refl, arith, append_assoc, length-append, ◌⊎◌, ⊎_elim, inl, inr}
+use Rattle.std.proofs.Common.{◌≡◌, ◌≢◌, ℕ, ◌<◌, Bool, true, false, ◌==◌, [], ◌∷◌, ◌++◌, length, flat_map, ap, sym, ◌∙◌, subst, refl, arith, append_assoc, length-append}
 use Rattle.std.proofs.lemmas.Bool.Decides.{nat_tests}
-use Rattle.std.proofs.lemmas.List.{append-nil}
-use Rattle.std.proofs.lemmas.List.Concat.{flat_map-append}
 use Rattle.fixed_form.specs.Lines.{Text}
 use Rattle.thin_form.specs.Forms.{doubled}
 use Rattle.thin_form.specs.Fronts.{Lacks, NoQuote, Closes, NeverCloses, FrontByte, NoFrontByte}

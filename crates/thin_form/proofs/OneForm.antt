@@ -1,17 +1,15 @@
 -- A statement text has at most one form.
-use Rattle.std.proofs.Common.{◌≡◌, ◌≢◌, ℕ, ◌+◌, ◌<◌, ◌≤◌, Bool, true, false, ◌&&◌, List, [], ◌∷◌, ◌++◌, length, take, drop, codes, ap, sym, ◌∙◌, subst, refl, arith, append_assoc, length-append, Option, Some, None, Result, Ok, Err, IfOk, MatchOption}
+use Rattle.std.proofs.Common.{◌≡◌, ◌≢◌, ℕ, true, List, ◌∷◌, ◌++◌, length, take, drop, codes, ap, sym, ◌∙◌, subst, refl, arith, Option, Some, None, Result, Ok, Err, IfOk, MatchOption}
 use Rattle.std.specs.declared.alloc.AllocError.{AllocError}
-use Rattle.std.specs.List.{list_all}
 use Rattle.std.proofs.lemmas.List.{take-append-drop}
-use Rattle.std.proofs.lemmas.Bool.Decides.{nat_tests}
 use Rattle.fixed_form.specs.Lines.{Text}
 use Rattle.thin_form.specs.declared.statement.Addend.{Addend}
 use Rattle.thin_form.specs.declared.statement.Term.{Term}
 use Rattle.thin_form.specs.declared.statement.Item.{Item}
 use Rattle.thin_form.specs.declared.statement.Statement.{Statement}
-use Rattle.thin_form.specs.declared.statement.Statement.TheVariants.{Assign, Print, End}
-use Rattle.thin_form.specs.Forms.{is_word, is_integer_letter, IsName, SpellsTerm, SpellsMore, SpellsItems, IsForm, assign, print, end}
-use Rattle.thin_form.specs.Fronts.{Lacks, Stops, IsRun, FrontTerm, NoFrontTerm, NoMore, NoItems, NoAssignment, FrontPrint, NoPrint, NoForm}
+use Rattle.thin_form.specs.declared.statement.Statement.TheVariants.{Assign, Print}
+use Rattle.thin_form.specs.Forms.{is_integer_letter, IsName, SpellsTerm, SpellsMore, SpellsItems, IsForm, assign, print, end}
+use Rattle.thin_form.specs.Fronts.{Lacks, IsRun, FrontTerm, NoFrontTerm, NoMore, NoItems, NoAssignment, FrontPrint, NoPrint, NoForm}
 use Rattle.thin_form.proofs.Words.{Same, word_same, name_word, front_term_only, run_stops}
 use Rattle.thin_form.proofs.Sequences.{more_stops, more_only, items_only}
 
@@ -66,7 +64,6 @@ form_only (end e g) (print r is f items h) = absurd (no_print_end r f e)
 form_only (end e g) (end f h) = g ∙ sym h
 
 -- ---- what a text is not
-
 
 -- the word at the front is the target of every assignment
 target_only : {text word behind : Text} {n : ℕ} → IsRun text n → word ≡ take n text → behind ≡ drop n text → (target rest : Text) → text ≡ target ++ 61 ∷ rest → IsName target → Same word behind target (61 ∷ rest)

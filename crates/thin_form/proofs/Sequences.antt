@@ -1,7 +1,6 @@
 -- Terms behind signs, and items behind commas.
-use Rattle.std.proofs.Common.{◌≡◌, ◌≢◌, ℕ, ◌+◌, ◌<◌, ◌≤◌, Bool, true, false, ◌&&◌, List, [], ◌∷◌, ◌++◌, length, flat_map, ap, sym, ◌∙◌, subst, refl, arith, append_assoc, length-append}
+use Rattle.std.proofs.Common.{◌≡◌, ℕ, ◌<◌, true, List, [], ◌∷◌, ◌++◌, length, flat_map, ap, sym, ◌∙◌, subst, refl, arith, append_assoc, length-append}
 use Rattle.std.specs.List.{list_all}
-use Rattle.std.proofs.lemmas.List.{append-nil}
 use Rattle.fixed_form.specs.Lines.{Text}
 use Rattle.thin_form.specs.declared.statement.Sign.{Sign}
 use Rattle.thin_form.specs.declared.statement.Sign.TheVariants.{Plus, Minus}
@@ -9,9 +8,9 @@ use Rattle.thin_form.specs.declared.statement.Addend.{Addend}
 use Rattle.thin_form.specs.declared.statement.Term.{Term}
 use Rattle.thin_form.specs.declared.statement.Item.{Item}
 use Rattle.thin_form.specs.declared.statement.Item.TheVariants.{Value, Text as Quoted}
-use Rattle.thin_form.specs.Forms.{is_word, IsName, IsInteger, SpellsTerm, variable, integer, sign_byte, SpellsMore, no_more, one_more, SpellsItem, value, literal, SpellsItems, no_items, one_item, doubled}
+use Rattle.thin_form.specs.Forms.{is_word, SpellsTerm, variable, integer, sign_byte, SpellsMore, no_more, one_more, SpellsItem, value, literal, SpellsItems, no_items, one_item, doubled}
 use Rattle.thin_form.specs.Fronts.{Lacks, NoSign, Stops, FrontTerm, NoFrontTerm, FrontAddend, NoFrontAddend, NoMore, NoQuote, Closes, NeverCloses, Bounds, FrontItem, NoFrontItem, NoItems}
-use Rattle.thin_form.proofs.Words.{Same, front_term_only, term_word, and_left, false_true}
+use Rattle.thin_form.proofs.Words.{front_term_only, term_word, and_left, false_true}
 use Rattle.thin_form.proofs.Literals.{closes_same}
 
 -- ---- terms behind signs

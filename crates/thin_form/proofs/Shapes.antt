@@ -1,5 +1,5 @@
 -- What the form of a statement text says of the statement: its size, and that its parts are as a program has them.
-use Rattle.std.proofs.Common.{◌≡◌, ℕ, ◌+◌, ◌-◌, ◌*◌, ◌<◌, ◌≤◌, Bool, true, false, ◌&&◌, ◌==◌, pos, ◌≤ℤ◌, List, [], ◌∷◌, ◌++◌, length, flat_map, sum_by, codes, take, drop, cond, nat_lt, ap, sym, ◌∙◌, subst, refl, arith, append_assoc, length-append, length-drop, length-take, replicate, nat_le, ◌⊎◌, inl, inr}
+use Rattle.std.proofs.Common.{◌≡◌, ℕ, ◌+◌, ◌-◌, ◌<◌, ◌≤◌, Bool, true, false, ◌&&◌, ◌==◌, List, [], ◌∷◌, ◌++◌, length, flat_map, sum_by, codes, take, cond, nat_lt, ap, sym, ◌∙◌, subst, refl, arith, length-append, length-drop, length-take, replicate, nat_le}
 use Rattle.std.specs.List.{All, list_all}
 use Rattle.std.proofs.lemmas.List.Elements.{All-nil, All-cons}
 use Rattle.std.proofs.lemmas.List.Folds.{list_all-append}
@@ -10,13 +10,11 @@ use Rattle.fixed_form.specs.Lines.{Text}
 use Rattle.fixed_form.specs.Cards.{kept, inside_after, text_from, columns, text_field}
 use Rattle.thin_form.specs.declared.statement.Addend.{Addend}
 use Rattle.thin_form.specs.declared.statement.Term.{Term}
-use Rattle.thin_form.specs.declared.statement.Term.TheVariants.{Variable, Integer}
 use Rattle.thin_form.specs.declared.statement.Item.{Item}
-use Rattle.thin_form.specs.declared.statement.Item.TheVariants.{Value, Text as Quoted}
 use Rattle.thin_form.specs.declared.statement.Statement.{Statement}
 use Rattle.thin_form.specs.declared.statement.Statement.TheVariants.{Assign, Print, End}
-use Rattle.thin_form.specs.Forms.{IsName, IsInteger, SpellsTerm, variable, integer, SpellsMore, no_more, one_more, SpellsItem, value, literal, SpellsItems, no_items, one_item, doubled, IsForm, assign, print, end}
-use Rattle.thin_form.specs.Programs.{tokens_of, term_size, item_size, size_of, IsTerm, IsItem, IsPlain}
+use Rattle.thin_form.specs.Forms.{IsName, SpellsTerm, variable, integer, SpellsMore, no_more, one_more, SpellsItem, value, literal, SpellsItems, no_items, one_item, doubled, IsForm, assign, print, end}
+use Rattle.thin_form.specs.Programs.{term_size, item_size, size_of, IsTerm, IsItem, IsPlain}
 use Rattle.thin_form.specs.Progress.{is_end}
 use Rattle.thin_form.specs.Texts.{is_printable, text_of, IsStatementLine}
 use Rattle.thin_form.proofs.Words.{and_left, and_right, and_both}
@@ -124,8 +122,8 @@ text_bytes_all inside (b ∷ field) h =
     ap (list_all is_byte) (text_step inside b field)
     ∙ (list_all-append is_byte (kept inside b) (text_from (inside_after inside b) field)
     ∙ and_both (list_all is_byte (kept inside b)) (list_all is_byte (text_from (inside_after inside b) field))
-      (kept_bytes inside b (and_left (is_printable b) (list_all is_printable field) h))
-      (text_bytes_all (inside_after inside b) field (and_right (is_printable b) (list_all is_printable field) h)))
+    (kept_bytes inside b (and_left (is_printable b) (list_all is_printable field) h))
+    (text_bytes_all (inside_after inside b) field (and_right (is_printable b) (list_all is_printable field) h)))
 
 front_bytes : (xs ys : Text) → list_all is_byte (xs ++ ys) ≡ true → list_all is_byte xs ≡ true
 front_bytes xs ys h = and_left (list_all is_byte xs) (list_all is_byte ys) (sym (list_all-append is_byte xs ys) ∙ h)

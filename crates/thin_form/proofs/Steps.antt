@@ -1,11 +1,9 @@
 -- One more line of a thin program.
-use Rattle.std.proofs.Common.{◌≡◌, ℕ, suc, ◌+◌, ◌<◌, ◌≤◌, Bool, true, false, not, ◌&&◌, List, [], ◌∷◌, ◌++◌, length, take, drop, get_or, sum_by, cond, Some, None, Option, Result, Ok, Err, IfOk, MatchOption, ap, sym, ◌∙◌, subst, refl, arith, append_assoc, length-append, ◌⊎◌, inl, inr}
+use Rattle.std.proofs.Common.{◌≡◌, ℕ, ◌+◌, ◌<◌, ◌≤◌, Bool, true, false, List, [], ◌∷◌, ◌++◌, length, take, get_or, cond, Some, None, Option, Result, Ok, Err, IfOk, MatchOption, ap, sym, ◌∙◌, subst, refl, arith, append_assoc}
 use Rattle.std.specs.declared.alloc.AllocError.{AllocError}
 use Rattle.std.specs.List.{All, list_all}
-use Rattle.std.proofs.lemmas.List.{append-nil}
 use Rattle.std.proofs.lemmas.List.Elements.{All-nil, All-push}
-use Rattle.std.proofs.lemmas.List.Sums.{sum_by_push, sum_by-append}
-use Rattle.std.proofs.Math.Seq.{get_or-append_seam}
+use Rattle.std.proofs.lemmas.List.Sums.{sum_by_push}
 use Rattle.fixed_form.specs.Lines.{Text}
 use Rattle.fixed_form.specs.Cards.{columns, is_blank, text_field}
 use Rattle.thin_form.specs.declared.statement.Statement.{Statement}
@@ -13,7 +11,7 @@ use Rattle.thin_form.specs.declared.statement.Statement.TheVariants.{Assign, Pri
 use Rattle.thin_form.specs.Forms.{IsForm}
 use Rattle.thin_form.specs.Fronts.{NoForm}
 use Rattle.thin_form.specs.Programs.{tokens_of, size_of, IsPlain, IsProgram}
-use Rattle.thin_form.specs.Progress.{is_end, NoStatement, IsOpen, IsClosed, StateIs, GoesOn, Stands}
+use Rattle.thin_form.specs.Progress.{is_end, NoStatement, IsOpen, StateIs, GoesOn, Stands}
 use Rattle.thin_form.specs.Texts.{is_printable, text_of, is_comment_line, IsStatementLine, Spells, nothing, comment, statement, IsNoEnd, IsThin, line_bytes, text_bytes}
 use Rattle.thin_form.proofs.Words.{false_true}
 use Rattle.thin_form.proofs.OneForm.{form_only}

@@ -1,12 +1,11 @@
 -- Words and terms: where one ends, and that a text spells one at most.
-use Rattle.std.proofs.Common.{◌≡◌, ℕ, zero, suc, ◌+◌, ◌<◌, ◌≤◌, Bool, true, false, ◌&&◌, ◌==◌, pos, List, [], ◌∷◌, ◌++◌, length, take, drop, get_or, ap, sym, ◌∙◌, subst, refl, arith, MatchBool}
+use Rattle.std.proofs.Common.{◌≡◌, ℕ, zero, suc, ◌+◌, ◌<◌, ◌≤◌, Bool, true, false, ◌&&◌, ◌==◌, [], ◌∷◌, ◌++◌, length, take, drop, get_or, ap, sym, ◌∙◌, subst, refl, arith, MatchBool}
 use Rattle.std.specs.List.{list_all}
 use Rattle.std.proofs.lemmas.List.{take_more, take-append-drop}
 use Rattle.std.proofs.lemmas.Bool.Decides.{nat_tests}
 use Rattle.fixed_form.specs.Lines.{Text}
 use Rattle.fixed_form.specs.Cards.{is_digit, value_of}
 use Rattle.thin_form.specs.declared.statement.Term.{Term}
-use Rattle.thin_form.specs.declared.statement.Term.TheVariants.{Variable, Integer}
 use Rattle.thin_form.specs.Forms.{is_word, is_integer_letter, IsName, IsInteger, SpellsTerm, variable, integer}
 use Rattle.thin_form.specs.Fronts.{Stops, IsRun, NoTerm, FrontTerm, NoFrontTerm}
 

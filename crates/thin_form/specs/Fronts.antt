@@ -1,5 +1,5 @@
 -- What stands at the front of a text, for the functions that read a statement from the left.
-use Rattle.std.specs.Prelude.{◌≡◌, ℕ, ◌+◌, ◌≤◌, ◌<◌, Bool, true, false, List, [], ◌∷◌, ◌++◌, length, take, flat_map, slice_index, codes}
+use Rattle.std.specs.Prelude.{◌≡◌, ℕ, ◌≤◌, ◌<◌, true, false, List, [], ◌∷◌, ◌++◌, length, take, flat_map, slice_index, codes}
 use Rattle.std.specs.List.{list_all}
 use Rattle.fixed_form.specs.Lines.{Text}
 use Rattle.thin_form.specs.declared.statement.Sign.{Sign}

@@ -1,14 +1,13 @@
 -- How far a reader has come in the lines of a text.
 use Rattle.std.specs.Prelude.{◌≡◌, ℕ, ◌+◌, ◌≤◌, ◌<◌, Bool, true, false, List, [], ◌∷◌, ◌++◌, Some, length, min, sum_by, codes}
 use Rattle.std.specs.List.{All}
-use Rattle.fixed_form.specs.declared.fault.SourceFault.{SourceFault}
 use Rattle.fixed_form.specs.declared.fault.Refused.{Refused}
 use Rattle.fixed_form.specs.declared.fault.Refused.TheVariants.{Fault, OutOfMemory}
 use Rattle.fixed_form.specs.Lines.{Text, lines_of}
 use Rattle.thin_form.specs.declared.statement.Statement.{Statement}
 use Rattle.thin_form.specs.declared.statement.Statement.TheVariants.{Assign, Print, End}
 use Rattle.thin_form.specs.Programs.{tokens_of, size_of, IsPlain}
-use Rattle.thin_form.specs.Texts.{Spells, IsStatementLine, text_bytes, is_comment_line}
+use Rattle.thin_form.specs.Texts.{Spells, IsStatementLine, text_bytes}
 
 abbrev pub is_end : Statement → Bool
 is_end (Assign target first more) = false

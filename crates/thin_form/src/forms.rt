@@ -75,7 +75,11 @@ fn front_byte(text: &[u8]) -> Option<(u8, &[u8])>
     let Some((second, rest)) = rest.split_first() else {
         return None;
     };
-    if *second == b'\'' { Some((b'\'', rest)) } else { None }
+    if *second == b'\'' {
+        Some((b'\'', rest))
+    } else {
+        None
+    }
 }
 
 /// The bytes of a literal behind its first apostrophe, and the text behind the last.
@@ -158,7 +162,11 @@ fn behind_print(text: &[u8]) -> Option<&[u8]>
         return None;
     }
     let (word, rest) = text.split_at(6);
-    if word == b"PRINT*".as_slice() { Some(rest) } else { None }
+    if word == b"PRINT*".as_slice() {
+        Some(rest)
+    } else {
+        None
+    }
 }
 
 fn is_end(text: &[u8]) -> bool
@@ -186,5 +194,4 @@ pub fn form(alloc: Global, text: &[u8]) -> Result<Option<Statement>, AllocError>
 /// A statement text has at most one form.
 pub fn one_form(text: &[u8])
     ensures { (a b : Statement) → f.IsForm text.now a → f.IsForm text.now b → a ≡ b }
-{
-}
+{}

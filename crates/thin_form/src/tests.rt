@@ -34,7 +34,11 @@ fn push_tree(alloc: Global, text: &mut Vec<u8>, statement: &Statement) -> Result
             text.extend_from_slice(b":".as_slice())?;
             push_term(alloc, text, first)?;
             for addend in more.as_slice() {
-                text.push(if addend.sign == Sign::Plus { b'+' } else { b'-' })?;
+                text.push(if addend.sign == Sign::Plus {
+                    b'+'
+                } else {
+                    b'-'
+                })?;
                 push_term(alloc, text, &addend.term)?;
             }
         }
@@ -78,16 +82,37 @@ fn told(rt: &impl Abort, alloc: Global, text: &[u8]) -> Result<Vec<u8>, AllocErr
 fn reads_thin_programs(rt: HostRuntime) -> Result<(), Fail> {
     let alloc = rt.alloc();
     let cases = [
-        ("      I = 2\n      J = I + 40 - 5\n      PRINT *, 'J IS', J\n      END\n", "I:2;J:I+40-5;P <J IS> J;E;"),
-        ("      PRINT *, 9223372036854775807, 0\n      END\n", "P 9223372036854775807 0;E;"),
-        ("      K = 00000000000000000000000000007\n      END\n", "K:7;E;"),
+        (
+            "      I = 2\n      J = I + 40 - 5\n      PRINT *, 'J IS', J\n      END\n",
+            "I:2;J:I+40-5;P <J IS> J;E;",
+        ),
+        (
+            "      PRINT *, 9223372036854775807, 0\n      END\n",
+            "P 9223372036854775807 0;E;",
+        ),
+        (
+            "      K = 00000000000000000000000000007\n      END\n",
+            "K:7;E;",
+        ),
         ("      PRINT*\n      END\n", "P;E;"),
-        ("      NA2345678901234567890123456789_ = I\n      END\n", "NA2345678901234567890123456789_:I;E;"),
+        (
+            "      NA2345678901234567890123456789_ = I\n      END\n",
+            "NA2345678901234567890123456789_:I;E;",
+        ),
         ("      IF = 3\n      MAX = 1\n      END\n", "IF:3;MAX:1;E;"),
-        ("      PRINT *, 'IT''S', '', 'a b', 'X' 'Y'\n      END\n", "P <IT'S> <> <a b> <X'Y>;E;"),
-        ("C one\n* two\nc three\n\n      I = 1\n        \nC four\n      END\nC five\n", "I:1;E;"),
+        (
+            "      PRINT *, 'IT''S', '', 'a b', 'X' 'Y'\n      END\n",
+            "P <IT'S> <> <a b> <X'Y>;E;",
+        ),
+        (
+            "C one\n* two\nc three\n\n      I = 1\n        \nC four\n      END\nC five\n",
+            "I:1;E;",
+        ),
         ("      print *, i n t\n      E N D\n", "P INT;E;"),
-        ("      I = 1                                                             + J\n      END\n", "I:1;E;"),
+        (
+            "      I = 1                                                             + J\n      END\n",
+            "I:1;E;",
+        ),
         ("\t\t\t\t\t\n", "MAIN 1"),
         ("      I = 1\r\n      END\r\n", "I:1;E;"),
         ("      END", "E;"),
@@ -111,8 +136,14 @@ fn tells_the_line_that_is_not_thin(rt: HostRuntime) -> Result<(), Fail> {
         ("      PRINT *, 0, -5\n      END\n", "MAIN 1"),
         ("      PRINT *, +2\n      END\n", "MAIN 1"),
         ("      K = 9223372036854775808\n      END\n", "MAIN 1"),
-        ("      K = 99999999999999999999999999\n      END\n", "MAIN 1"),
-        ("      NA23456789012345678901234567890_ = 1\n      END\n", "MAIN 1"),
+        (
+            "      K = 99999999999999999999999999\n      END\n",
+            "MAIN 1",
+        ),
+        (
+            "      NA23456789012345678901234567890_ = 1\n      END\n",
+            "MAIN 1",
+        ),
         ("      X = 1\n      END\n", "MAIN 1"),
         ("      I = 1\n      J =\t1\n      END\n", "MAIN 2"),
         ("      PRINT *, '\x7f'\n      END\n", "MAIN 1"),
@@ -148,9 +179,15 @@ fn long_program(alloc: Global, last: &[u8]) -> Result<Vec<u8>, AllocError> {
 #[test]
 fn allows_twenty_thousand_tokens(rt: HostRuntime) -> Result<(), Fail> {
     let alloc = rt.alloc();
-    let text = long_program(alloc, b"      I=I+I+I+I+I+I+I+I+I+I+I+I+I+I+I+I+I\n".as_slice())?;
+    let text = long_program(
+        alloc,
+        b"      I=I+I+I+I+I+I+I+I+I+I+I+I+I+I+I+I+I\n".as_slice(),
+    )?;
     assert!(rt; read_thin(alloc, text.as_slice()).is_ok());
-    let text = long_program(alloc, b"      PRINT*,I,I,I,I,I,I,I,I,I,I,I,I,I,I,I,I,I\n".as_slice())?;
+    let text = long_program(
+        alloc,
+        b"      PRINT*,I,I,I,I,I,I,I,I,I,I,I,I,I,I,I,I,I\n".as_slice(),
+    )?;
     let found = told(&rt, alloc, text.as_slice())?;
     assert_eq!(rt; found.as_slice(), b"MAIN 323".as_slice());
     Ok(())

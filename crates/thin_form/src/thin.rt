@@ -10,7 +10,8 @@ ghost use Rattle.thin_form.specs.Texts as t;
 use super::forms::form;
 use super::statement::Statement;
 use fixed_form::{
-    List, Name, Place, Refused, SourceFault, columns, is_blank, is_comment_line, next_line, push_text,
+    List, Name, Place, Refused, SourceFault, columns, is_blank, is_comment_line, next_line,
+    push_text,
 };
 use std::alloc::{AllocError, Global};
 

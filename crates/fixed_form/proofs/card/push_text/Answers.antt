@@ -1,6 +1,6 @@
-use Rattle.std.proofs.Common.{◌≡◌, ◌++◌, [], ap, sym, ◌∙◌, take, get_or, append_assoc}
+use Rattle.std.proofs.Common.{◌++◌, ap, sym, ◌∙◌, take, get_or, append_assoc}
 use Rattle.std.proofs.lemmas.List.{append-nil}
-use Rattle.fixed_form.specs.Cards.{kept, inside_after, inside_from, text_from}
+use Rattle.fixed_form.specs.Cards.{kept, inside_after, text_from}
 use Rattle.fixed_form.proofs.TextSoFar.{text_none, inside_none, text_more, inside_more}
 use Rattle.fixed_form.proofs.card.push_text.Goals as goal
 

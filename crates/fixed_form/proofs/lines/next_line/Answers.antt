@@ -1,4 +1,4 @@
-use Rattle.std.proofs.Common.{◌≡◌, ◌<◌, length, arith, sym, ◌∙◌, ap, drop, get_or, refl}
+use Rattle.std.proofs.Common.{◌<◌, length, arith, ◌∙◌, ap, drop}
 use Rattle.fixed_form.proofs.Splits.{lines_empty, lines_at_last, lines_at_end, filled, emptied, drop_one}
 use Rattle.fixed_form.specs.Lines.{stripped}
 use Rattle.fixed_form.proofs.lines.next_line.Goals as goal

@@ -1,4 +1,4 @@
-use Rattle.thin_form.proofs.OneForm.{form_of, no_print_form, printed}
+use Rattle.thin_form.proofs.OneForm.{form_of, printed}
 use Rattle.thin_form.proofs.forms.form.Goals as goal
 
 pub returns-in_default : goal.returns-in_default

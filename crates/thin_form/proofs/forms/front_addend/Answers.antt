@@ -1,4 +1,4 @@
-use Rattle.thin_form.proofs.Sequences.{no_addend_sign, no_addend_term}
+use Rattle.thin_form.proofs.Sequences.{no_addend_term}
 use Rattle.thin_form.proofs.forms.front_addend.Goals as goal
 
 pub returns-in_default-2 : goal.returns-in_default-2

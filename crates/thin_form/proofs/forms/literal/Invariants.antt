@@ -1,4 +1,4 @@
-use Rattle.std.proofs.Common.{List, ◌++◌, length}
+use Rattle.std.proofs.Common.{◌++◌, length}
 use Rattle.fixed_form.specs.Lines.{Text}
 use Rattle.thin_form.specs.Fronts.{Closes, NeverCloses}
 use Rattle.thin_form.proofs.forms.literal.Given as goal

@@ -1,5 +1,4 @@
-use Rattle.std.proofs.Common.{sym, ◌∙◌, ap}
-use Rattle.thin_form.proofs.Reading.{gone_start, gone_few, gone_next, gone_open, gone_thin, gone_program, gone_size}
+use Rattle.thin_form.proofs.Reading.{gone_start, gone_few, gone_open, gone_thin, gone_program}
 use Rattle.thin_form.proofs.thin.read_thin.Goals as goal
 
 pub line-init : goal.line-init

@@ -1,4 +1,4 @@
-use Rattle.std.proofs.Common.{sym, ◌∙◌, ap, take, false, ◌++◌, []}
+use Rattle.std.proofs.Common.{sym, ◌∙◌, ap, take, false, ◌++◌}
 use Rattle.std.specs.List.{list_all}
 use Rattle.fixed_form.specs.Cards.{is_blank, text_from, text_field}
 use Rattle.thin_form.specs.Texts.{text_of, is_printable}

@@ -1,6 +1,5 @@
-use Rattle.std.proofs.Common.{sym, ◌∙◌, ap, arith, false, true, subst, refl}
+use Rattle.std.proofs.Common.{sym, ◌∙◌, false, true, refl}
 use Rattle.thin_form.specs.Texts.{is_comment_line}
-use Rattle.thin_form.specs.Progress.{Stands}
 use Rattle.thin_form.proofs.Shapes.{line_small}
 use Rattle.thin_form.proofs.Steps.{stands_comment, stands_statement}
 use Rattle.thin_form.proofs.Faults.{dead_form, dead_ended, dead_tokens, refused}
