@@ -7,7 +7,7 @@ use Rattle.std.proofs.lemmas.List.Sums.{sum_by-cons}
 use Rattle.std.proofs.lemmas.Int.{ints}
 use Rattle.std.proofs.lemmas.Bool.Decides.{nat_tests}
 use Rattle.fixed_form.specs.Lines.{Text}
-use Rattle.fixed_form.specs.Cards.{kept, inside_after, text_from, columns, text_field}
+use Rattle.fixed_form.specs.Cards.{value_of, kept, inside_after, text_from, columns, text_field}
 use Rattle.thin_form.specs.declared.statement.Addend.{Addend}
 use Rattle.thin_form.specs.declared.statement.Term.{Term}
 use Rattle.thin_form.specs.declared.statement.Item.{Item}
@@ -143,7 +143,7 @@ literal_bytes (b ∷ bytes) h =
 
 term_plain : {text : Text} {term : Term} → SpellsTerm text term → IsTerm term
 term_plain {text} (variable name e) = subst IsTerm (sym e) (name_size name)
-term_plain {text} (integer number e) = subst IsTerm (sym e) (omega (arith, ints))
+term_plain {text} (integer number e) = subst IsTerm (sym e) (value_of text, (omega (arith, number.fits), refl))
 
 more_plain : {text : Text} {all : List Addend} → SpellsMore text all → All (λ a. IsTerm a.term) all
 more_plain (no_more e f) = subst (λ (all : List Addend). All (λ a. IsTerm a.term) all) (sym f) (All-nil (λ (a : Addend). IsTerm a.term))

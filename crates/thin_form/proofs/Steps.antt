@@ -10,12 +10,12 @@ use Rattle.thin_form.specs.declared.statement.Statement.{Statement}
 use Rattle.thin_form.specs.declared.statement.Statement.TheVariants.{Assign, Print, End}
 use Rattle.thin_form.specs.Forms.{IsForm}
 use Rattle.thin_form.specs.Fronts.{NoForm}
-use Rattle.thin_form.specs.Programs.{tokens_of, size_of, IsPlain, IsProgram}
+use Rattle.thin_form.specs.Programs.{tokens_of, size_of, IsPlain, IsShort, IsProgram}
 use Rattle.thin_form.specs.Progress.{is_end, NoStatement, IsOpen, StateIs, GoesOn, Stands}
 use Rattle.thin_form.specs.Texts.{is_printable, text_of, is_comment_line, IsStatementLine, Spells, nothing, comment, statement, IsNoEnd, IsThin, line_bytes, text_bytes}
 use Rattle.thin_form.proofs.Words.{false_true}
 use Rattle.thin_form.proofs.OneForm.{form_only}
-use Rattle.thin_form.proofs.Shapes.{line_at_most, line_plain, is_the_end}
+use Rattle.thin_form.proofs.Shapes.{line_at_most, line_plain, is_the_end, line_small}
 
 -- ---- the statement on a line
 
@@ -96,10 +96,10 @@ statement_bytes : (line : Text) → is_comment_line line ≡ false → line_byte
 statement_bytes line h = ap (λ (b : Bool). cond b 0 (length (text_of line))) h
 
 next_state : {body : List Statement} {tokens : ℕ} {line : Text} (s : Statement) (more : ℕ) (ended : Bool) → IsOpen body tokens → IsStatementLine line s → more ≡ tokens + tokens_of s → is_end s ≡ ended → (ended ≡ false → more < 20000) → StateIs ended (body ++ s ∷ []) more
-next_state {body} s more false stood on e no_end few = record { plain = All-push IsPlain body s stood.plain (line_plain on no_end); few = few refl }
+next_state {body} s more false stood on e no_end few = record { plain = All-push IsPlain body s stood.plain (line_plain on no_end); short = All-push IsShort body s stood.short (line_small on); few = few refl }
 next_state {body} s more true stood on e end few =
     let is : s ≡ End = is_the_end s end in
-    record { front = body; ends = ap (λ s. body ++ s ∷ []) is; plain = stood.plain; few = omega (arith, stood.few, e, ap tokens_of is) }
+    record { front = body; ends = ap (λ s. body ++ s ∷ []) is; plain = stood.plain; short = All-push IsShort body s stood.short (line_small on); few = omega (arith, stood.few, e, ap tokens_of is) }
 
 pub stands_statement : {seen : List Text} {body : List Statement} {tokens : ℕ} {line : Text} (s : Statement) (more : ℕ) → IsStatementLine line s → more ≡ tokens + tokens_of s → (is_end s ≡ false → more < 20000) → Stands seen body tokens false → Stands (seen ++ line ∷ []) (body ++ s ∷ []) more (is_end s)
 stands_statement {seen} {body} {tokens} {line} s more on e few stands = record {
@@ -116,7 +116,7 @@ stands_start = record {
   only = λ more whole spells. record { others = whole; cut = refl; spells = spells };
   counted = refl;
   sized = omega arith;
-  state = record { plain = All-nil IsPlain; few = omega arith };
+  state = record { plain = All-nil IsPlain; short = All-nil IsShort; few = omega arith };
 }
 
 pub tokens_few : {seen : List Text} {body : List Statement} {tokens : ℕ} (ended : Bool) → Stands seen body tokens ended → tokens ≤ 20000
@@ -143,4 +143,4 @@ thin_of stands = record {
 }
 
 pub program_of : {seen : List Text} {body : List Statement} {tokens : ℕ} → Stands seen body tokens true → IsProgram body
-program_of stands = record { front = stands.state.front; ends = stands.state.ends; plain = stands.state.plain; few = omega (arith, stands.counted, stands.state.few) }
+program_of stands = record { front = stands.state.front; ends = stands.state.ends; plain = stands.state.plain; few = omega (arith, stands.counted, stands.state.few); short = stands.state.short }

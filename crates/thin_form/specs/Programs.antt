@@ -43,10 +43,14 @@ IsPlain (Assign target first more) = (0 < length target) × (IsTerm first × All
 IsPlain (Print items) = All IsItem items
 IsPlain End = ⊥
 
--- A program is statements with END as the last and nowhere before, in at most 20,000 tokens, each on one line of 66 columns.
+-- it can stand on one line, in columns 7 to 72
+abbrev pub IsShort : Statement → Type 0
+IsShort statement = size_of statement ≤ 66
+
+-- A program is statements with END as the last and nowhere before, in at most 20,000 tokens, each on one line.
 pub record IsProgram (body : List Statement) : Type 0 where
   pub front : List Statement
   pub ends : body ≡ front ++ End ∷ []
   pub plain : All IsPlain front
   pub few : sum_by tokens_of body ≤ 20000
-  pub short : All (λ s. size_of s ≤ 66) body
+  pub short : All IsShort body

@@ -6,7 +6,7 @@ use Rattle.fixed_form.specs.declared.fault.Refused.TheVariants.{Fault, OutOfMemo
 use Rattle.fixed_form.specs.Lines.{Text, lines_of}
 use Rattle.thin_form.specs.declared.statement.Statement.{Statement}
 use Rattle.thin_form.specs.declared.statement.Statement.TheVariants.{Assign, Print, End}
-use Rattle.thin_form.specs.Programs.{tokens_of, size_of, IsPlain}
+use Rattle.thin_form.specs.Programs.{tokens_of, size_of, IsPlain, IsShort}
 use Rattle.thin_form.specs.Texts.{Spells, IsStatementLine, text_bytes}
 
 abbrev pub is_end : Statement → Bool
@@ -20,6 +20,7 @@ pub record NoStatement (line : Text) : Type 0 where
 -- END is still to come, and there is room for its token
 pub record IsOpen (body : List Statement) (tokens : ℕ) : Type 0 where
   pub plain : All IsPlain body
+  pub short : All IsShort body
   pub few : tokens < 20000
 
 -- END has come
@@ -27,6 +28,7 @@ pub record IsClosed (body : List Statement) (tokens : ℕ) : Type 0 where
   pub front : List Statement
   pub ends : body ≡ front ++ End ∷ []
   pub plain : All IsPlain front
+  pub short : All IsShort body
   pub few : tokens ≤ 20000
 
 abbrev pub StateIs : Bool → List Statement → ℕ → Type 0
