@@ -40,16 +40,10 @@ pub data Performs (f : Frame) (k : ℕ) (w : World) (m : Memory) (text : List �
 pub performs : (f : Frame) (k : ℕ) (w : World) (m : Memory) (x : Statement) → Holds f w.cells m → IsPlain x → IsSound f x → Performs f k w (memory_after f m x) (statement_text f m x) (play no_calls (perform f.names k x) w)
 performs f k w m (Assign target first more) h p i =
     let then : ℤ → Act (After ℕ) = λ x. and_then (sum_from f.names x more) (λ y. and_then (store (location_of f.names target) y) (λ u. Done (Again (suc k)))) in
-    subst Goal (sym (play-and_then no_calls (value f.names first) then w)) (go (play no_calls (value f.names first) w) (value_fares f w m first h i.begins))
+    subst (λ o. Performs f k w (write 8 (address_of f target) n m) [] o) (sym (play-and_then no_calls (value f.names first) then w)) (go (play no_calls (value f.names first) w) (value_fares f w m first h i.begins))
   where
     n : ℕ
     n = sum_of f m (word_of f m first) more
-
-    Goal : Outcome (After ℕ) → Type 0
-    Goal o = Performs f k w (write 8 (address_of f target) n m) [] o
-
-    last : ℤ → World → Outcome (After ℕ)
-    last y u = play no_calls (and_then (store (location_of f.names target) y) (λ u. Done (Again (suc k)))) u
 
     ends : (o : Outcome ℤ) → Fares w n o → Performs f k w (write 8 (address_of f target) n m) [] (then_do o (λ y u. play no_calls (and_then (store (location_of f.names target) y) (λ u. Done (Again (suc k)))) u))
     ends o (gives y a e) = goes_on (record w { cells = put_cell (location_of f.names target) (Number y) w.cells }) (ap (λ o. then_do o (λ y u. play no_calls (and_then (store (location_of f.names target) y) (λ u. Done (Again (suc k)))) u)) e) (sym (append-nil w.out)) refl (stored f w.cells m (offset_of f.names target) n y h a)

@@ -6,5 +6,7 @@ mod names;
 mod pieces;
 mod program;
 mod statements;
+#[cfg(test)]
+mod tests;
 
 pub use program::program_file;
