@@ -1,6 +1,7 @@
 -- An instruction is read back from its fields, and fields that are read have the instruction.
 use Rattle.std.proofs.Common.{◌≡◌, ◌≢◌, ℕ, ◌+◌, ◌*◌, ◌/◌, ◌%◌, ◌^◌, ◌<◌, ◌≤◌, cond, nat_eq, refl, sym, ap, ◌∙◌, subst, arith, lit<, Bool, true, false, List, [], ◌∷◌, Option, Some, None}
 use Rattle.std.specs.Prelude.{ℤ, pos, negsuc, IfSome, IfNone}
+use Rattle.std.specs.Option.{option_map}
 use Rattle.std.proofs.lemmas.Bool.{eqb-true}
 use Rattle.rv_isa.specs.declared.inst.Fields.{Fields}
 use Rattle.rv_isa.specs.declared.inst.Inst.{Inst}
@@ -20,7 +21,7 @@ use Rattle.rv_isa.specs.declared.inst.ImmWordOp.TheVariants.{Addiw}
 use Rattle.rv_isa.specs.declared.inst.RegWordOp.{RegWordOp}
 use Rattle.rv_isa.specs.declared.inst.RegWordOp.TheVariants.{Addw}
 use Rattle.rv_isa.specs.Layout.{word, fields, IsInWidth, unsigned, signed, i_fields, i_bits, s_fields, s_bits, b_fields, b_bits, u_fields, u_bits, j_order, j_back}
-use Rattle.rv_isa.specs.Table.{Group, Luis, Auipcs, Jals, Jalrs, Branches, Loads, Stores, Imms, Regs, ImmWords, RegWords, Fences, Calls, opcode_of, key, branch_key, load_key, store_key, imm_key, reg_key, imm_word_key, reg_word_key, is_shift, key_bits, encode_fields, encode_word, InImmediate, InRange, find_key, groups, branch_ops, load_ops, store_ops, imm_ops, reg_ops, imm_word_ops, reg_word_ops, given, bits_key, bits_value, decode_group, decode_in, decode_fields, decode_word, IsDecoded}
+use Rattle.rv_isa.specs.Table.{Group, Luis, Auipcs, Jals, Jalrs, Branches, Loads, Stores, Imms, Regs, ImmWords, RegWords, Fences, Calls, opcode_of, key, branch_key, load_key, store_key, imm_key, reg_key, imm_word_key, reg_word_key, is_shift, key_bits, encode_fields, encode_word, InImmediate, InRange, find_key, groups, branch_ops, load_ops, store_ops, imm_ops, reg_ops, imm_word_ops, reg_word_ops, bits_key, bits_value, decode_group, decode_in, decode_fields, decode_word, IsDecoded}
 use Rattle.rv_isa.proofs.Layouts.{word-fields, fields-in_width, same_fields, fields-word, signed-unsigned, unsigned-below, reads, even_unsigned, even_signed, i_back, u_back, b_back, j_round, j_round_back}
 
 -- ---- the one rule of a table
@@ -127,15 +128,15 @@ round_fields (Store op a b z) r = rw (store_found op) (ap (λ z. Some (Store op 
 round_fields (Imm op d a z) r =
     let k = key_back_64 (imm_key op) d a 0x13 z (is_shift (imm_key op % 8)) refl r.2 (imm_is_key op) in
     let v = bits_value 64 (encode_fields (Imm op d a z)) in
-    ap (λ k. given (find_key imm_key imm_ops k) (λ o. Imm o d a v)) k.key_is
-    ∙ ap (λ f. given f (λ o. Imm o d a v)) (imm_found op) ∙ ap (λ z. Some (Imm op d a z)) k.value
-round_fields (Reg op d a b) r = ap (λ k. given (find_key reg_key reg_ops k) (λ op. Reg op d a b)) (reg_key_back (reg_key op)) ∙ ap (λ o. given o (λ op. Reg op d a b)) (reg_found op)
+    ap (λ k. option_map (λ o. Imm o d a v) (find_key imm_key imm_ops k)) k.key_is
+    ∙ ap (λ f. option_map (λ o. Imm o d a v) f) (imm_found op) ∙ ap (λ z. Some (Imm op d a z)) k.value
+round_fields (Reg op d a b) r = ap (λ k. option_map (λ op. Reg op d a b) (find_key reg_key reg_ops k)) (reg_key_back (reg_key op)) ∙ ap (λ o. option_map (λ op. Reg op d a b) o) (reg_found op)
 round_fields (ImmWord op d a z) r =
     let k = key_back_32 (imm_word_key op) d a 0x1B z (is_shift (imm_word_key op % 8)) refl r.2 (imm_word_is_key op) in
     let v = bits_value 32 (encode_fields (ImmWord op d a z)) in
-    ap (λ k. given (find_key imm_word_key imm_word_ops k) (λ o. ImmWord o d a v)) k.key_is
-    ∙ ap (λ f. given f (λ o. ImmWord o d a v)) (imm_word_found op) ∙ ap (λ z. Some (ImmWord op d a z)) k.value
-round_fields (RegWord op d a b) r = ap (λ k. given (find_key reg_word_key reg_word_ops k) (λ op. RegWord op d a b)) (reg_key_back (reg_word_key op)) ∙ ap (λ o. given o (λ op. RegWord op d a b)) (reg_word_found op)
+    ap (λ k. option_map (λ o. ImmWord o d a v) (find_key imm_word_key imm_word_ops k)) k.key_is
+    ∙ ap (λ f. option_map (λ o. ImmWord o d a v) f) (imm_word_found op) ∙ ap (λ z. Some (ImmWord op d a z)) k.value
+round_fields (RegWord op d a b) r = ap (λ k. option_map (λ op. RegWord op d a b) (find_key reg_word_key reg_word_ops k)) (reg_key_back (reg_word_key op)) ∙ ap (λ o. option_map (λ op. RegWord op d a b) o) (reg_word_found op)
 round_fields (Fence d a z) r = ap (λ z. Some (Fence d a z)) (ap (signed 2048) (i_back (unsigned 2048 z)) ∙ signed-unsigned 2048 z r.2)
 round_fields Ecall r = refl
 round_fields Ebreak r = refl
@@ -150,9 +151,9 @@ pub record Encodes (f : Fields) (i : Inst) : Type 0 where
 same_inst : (f : Fields) (i j : Inst) → Some i ≡ Some j → Encodes f i → Encodes f j
 same_inst f i j e h = let s : i ≡ j = cc in subst (λ x. Encodes f x) s h
 
-given-some : {A : Type 0} (o : Option A) (k : A → Inst) (f : Fields) (i : Inst) → given o k ≡ Some i → ((x : A) → o ≡ Some x → Encodes f (k x)) → Encodes f i
-given-some None k f i e h = absurd (cc)
-given-some (Some x) k f i e h = same_inst f (k x) i e (h x refl)
+option_map-some : {A : Type 0} (o : Option A) (k : A → Inst) (f : Fields) (i : Inst) → option_map k o ≡ Some i → ((x : A) → o ≡ Some x → Encodes f (k x)) → Encodes f i
+option_map-some None k f i e h = absurd (cc)
+option_map-some (Some x) k f i e h = same_inst f (k x) i e (h x refl)
 
 when-some : (b : Bool) (j : Inst) (f : Fields) (i : Inst) → cond b (Some j) None ≡ Some i → (b ≡ true → Encodes f j) → Encodes f i
 when-some true j f i e h = same_inst f j i e (h refl)
@@ -218,36 +219,36 @@ back_group f h Jalrs eo i e =
 back_group f h Branches eo i e =
     let n = b_bits f in
     let r = reads 4096 n (omega arith) in
-    given-some (find_key branch_key branch_ops f.funct3) _ f i e
+    option_map-some (find_key branch_key branch_ops f.funct3) _ f i e
     (λ op found. record {
       range = (h.rs1, h.rs2, r.range, even_signed 2048 n (omega arith) (omega arith));
       same = branch13 f h 0x63 (branch_key op) eo (find_key-some branch_key branch_ops f.funct3 op found) _ r.back;
     })
 back_group f h Loads eo i e =
     let r = reads 2048 (i_bits f) (omega arith) in
-    given-some (find_key load_key load_ops f.funct3) _ f i e
+    option_map-some (find_key load_key load_ops f.funct3) _ f i e
     (λ op found. record { range = (h.rd, h.rs1, r.range); same = imm12 f h 0x03 (load_key op) eo (find_key-some load_key load_ops f.funct3 op found) _ r.back })
 back_group f h Stores eo i e =
     let r = reads 2048 (s_bits f) (omega arith) in
-    given-some (find_key store_key store_ops f.funct3) _ f i e
+    option_map-some (find_key store_key store_ops f.funct3) _ f i e
     (λ op found. record { range = (h.rs1, h.rs2, r.range); same = store12 f h 0x23 (store_key op) eo (find_key-some store_key store_ops f.funct3 op found) _ r.back })
 back_group f h Imms eo i e =
-    given-some (find_key imm_key imm_ops (bits_key 64 f)) _ f i e
+    option_map-some (find_key imm_key imm_ops (bits_key 64 f)) _ f i e
     (λ op found.
     let k = bits_back_64 f h (imm_key op) (is_shift f.funct3) refl (find_key-some imm_key imm_ops (bits_key 64 f) op found) in
     record { range = (h.rd, h.rs1, k.range); same = imm12 f h 0x13 (imm_key op % 8) eo k.funct _ k.back })
 back_group f h Regs eo i e =
-    given-some (find_key reg_key reg_ops (key f.funct3 f.funct7)) _ f i e
+    option_map-some (find_key reg_key reg_ops (key f.funct3 f.funct7)) _ f i e
     (λ op found.
     let k = find_key-some reg_key reg_ops (key f.funct3 f.funct7) op found in
     record { range = (h.rd, h.rs1, h.rs2); same = same_fields _ f eo refl (omega arith) refl refl (omega arith) })
 back_group f h ImmWords eo i e =
-    given-some (find_key imm_word_key imm_word_ops (bits_key 32 f)) _ f i e
+    option_map-some (find_key imm_word_key imm_word_ops (bits_key 32 f)) _ f i e
     (λ op found.
     let k = bits_back_32 f h (imm_word_key op) (is_shift f.funct3) refl (find_key-some imm_word_key imm_word_ops (bits_key 32 f) op found) in
     record { range = (h.rd, h.rs1, k.range); same = imm12 f h 0x1B (imm_word_key op % 8) eo k.funct _ k.back })
 back_group f h RegWords eo i e =
-    given-some (find_key reg_word_key reg_word_ops (key f.funct3 f.funct7)) _ f i e
+    option_map-some (find_key reg_word_key reg_word_ops (key f.funct3 f.funct7)) _ f i e
     (λ op found.
     let k = find_key-some reg_word_key reg_word_ops (key f.funct3 f.funct7) op found in
     record { range = (h.rd, h.rs1, h.rs2); same = same_fields _ f eo refl (omega arith) refl refl (omega arith) })
@@ -331,14 +332,17 @@ back_fields f h i e = go (find_key opcode_of groups f.opcode) refl e
 
 -- [decode (encode i)] is i
 pub decode-encode : (i : Inst) → InRange i → decode_word (encode_word i) ≡ Some i
+unfolding decode_word encode_word
 decode-encode i r = ap decode_fields (fields-word (encode_fields i) (width_of i r)) ∙ round_fields i r
 
 pub encode-decode : (w : ℕ) → w < 2 ^ 32 → (i : Inst) → decode_word w ≡ Some i → IsDecoded w i
+unfolding decode_word encode_word
 encode-decode w h i e =
     let b = back_fields (fields w) (fields-in_width w h) i e in
     record { range = b.range; word_is = ap word b.same ∙ word-fields w h }
 
 pub word-below : (i : Inst) → InRange i → encode_word i < 2 ^ 32
+unfolding encode_word
 word-below i r = let h = width_of i r in omega arith
 
 -- ---- for the contracts

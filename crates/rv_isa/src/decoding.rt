@@ -5,9 +5,13 @@ ghost use Rattle.rv_isa.specs.Layout.{fields, signed, IsInWidth, b_bits, j_back}
 ghost use Rattle.rv_isa.specs.declared.inst.Inst.{Inst};
 ghost use Rattle.rv_isa.specs.Table.{decode_word, decode_fields, encode_word, InRange, IsDecoded, find_key, key, branch_key, branch_ops, load_key, load_ops, store_key, store_ops, imm_key, imm_ops, reg_key, reg_ops, imm_word_key, imm_word_ops, reg_word_key, reg_word_ops, call_of, decode_group, Imms, ImmWords};
 
-use crate::inst::{BranchOp, Fields, ImmOp, ImmWordOp, Inst, LoadOp, RegOp, RegWordOp, StoreOp};
+use crate::inst::{
+    BranchOp, Fields, ImmOp, ImmWordOp, Inst, LoadOp, RegOp, RegWordOp, StoreOp, opcode,
+};
 
-/// The instruction of a word.
+/// The instruction of a word, or None where no row of the table has the word.
+///
+/// Words and fields are those of the RISC-V Instruction Set Manual, Volume I: Unprivileged ISA, RV64I and M.
 pub fn decode(word: u32) -> Option<Inst>
     ensures value { result ≡ decode_word word }
     ensures some { IfSome result (λ i. IsDecoded word i) }
@@ -20,32 +24,38 @@ fn instruction(f: Fields) -> Option<Inst>
     requires { IsInWidth f }
     ensures { result ≡ decode_fields f }
 {
-    let (d, a, b) = (f.rd as u8, f.rs1 as u8, f.rs2 as u8);
+    let (rd, rs1, rs2) = (f.rd as u8, f.rs1 as u8, f.rs2 as u8);
     let upper = f.funct3 + 8 * f.rs1 + 256 * f.rs2 + 8192 * f.funct7;
     let low = f.rs2 + 32 * f.funct7;
     match f.opcode {
-        0x37 => Some(Inst::Lui(d, signed_of(upper, 1 << 19))),
-        0x17 => Some(Inst::Auipc(d, signed_of(upper, 1 << 19))),
-        0x6f => Some(Inst::Jal(d, signed_of(j_back_of(upper), 1 << 20))),
-        0x67 if f.funct3 == 0 => Some(Inst::Jalr(d, a, signed_of(low, 2048))),
-        0x63 => branch_op(f.funct3).map(|op| Inst::Branch(op, a, b, signed_of(b_bits_of(f), 4096))),
-        0x03 => load_op(f.funct3).map(|op| Inst::Load(op, d, a, signed_of(low, 2048))),
-        0x23 => store_op(f.funct3).map(|op| Inst::Store(
+        opcode::LUI => Some(Inst::Lui(rd, signed_of(upper, 1 << 19))),
+        opcode::AUIPC => Some(Inst::Auipc(rd, signed_of(upper, 1 << 19))),
+        opcode::JAL => Some(Inst::Jal(rd, signed_of(j_back_of(upper), 1 << 20))),
+        opcode::JALR if f.funct3 == 0 => Some(Inst::Jalr(rd, rs1, signed_of(low, 2048))),
+        opcode::BRANCH => branch_op(f.funct3).map(|op| Inst::Branch(
             op,
-            a,
-            b,
+            rs1,
+            rs2,
+            signed_of(b_bits_of(f), 4096),
+        )),
+        opcode::LOAD => load_op(f.funct3).map(|op| Inst::Load(op, rd, rs1, signed_of(low, 2048))),
+        opcode::STORE => store_op(f.funct3).map(|op| Inst::Store(
+            op,
+            rs1,
+            rs2,
             signed_of(f.rd + 32 * f.funct7, 2048),
         )),
-        0x13 => imm_of(f),
-        0x33 => reg_op(f.funct3, f.funct7).map(|op| Inst::Reg(op, d, a, b)),
-        0x1b => imm_word_of(f),
-        0x3b => reg_word_op(f.funct3, f.funct7).map(|op| Inst::RegWord(op, d, a, b)),
-        0x0f if f.funct3 == 0 => Some(Inst::Fence(d, a, signed_of(low, 2048))),
-        0x73 => call_of_word(f.rd + 32 * upper),
+        opcode::OP_IMM => imm_of(f),
+        opcode::OP => reg_op(f.funct3, f.funct7).map(|op| Inst::Reg(op, rd, rs1, rs2)),
+        opcode::OP_IMM_32 => imm_word_of(f),
+        opcode::OP_32 => reg_word_op(f.funct3, f.funct7).map(|op| Inst::RegWord(op, rd, rs1, rs2)),
+        opcode::MISC_MEM if f.funct3 == 0 => Some(Inst::Fence(rd, rs1, signed_of(low, 2048))),
+        opcode::SYSTEM => call_of_word(f.rd + 32 * upper),
         _ => None,
     }
 }
 
+// ECALL and EBREAK by all the bits above the opcode.
 fn call_of_word(upper: u32) -> Option<Inst>
     ensures { result ≡ call_of upper }
 {
@@ -56,29 +66,31 @@ fn call_of_word(upper: u32) -> Option<Inst>
     }
 }
 
+// A shift has its amount in the lower six bits of the immediate, and the upper six tell which shift it is.
 fn imm_of(f: Fields) -> Option<Inst>
     requires { IsInWidth f }
     ensures { result ≡ decode_group f Imms }
 {
     let bits = f.rs2 + 32 * f.funct7;
-    let (d, a) = (f.rd as u8, f.rs1 as u8);
+    let (rd, rs1) = (f.rd as u8, f.rs1 as u8);
     if f.funct3 == 1 || f.funct3 == 5 {
-        imm_op(f.funct3, bits / 64).map(|op| Inst::Imm(op, d, a, (bits % 64) as i32))
+        imm_op(f.funct3, bits / 64).map(|op| Inst::Imm(op, rd, rs1, (bits % 64) as i32))
     } else {
-        imm_op(f.funct3, 0).map(|op| Inst::Imm(op, d, a, signed_of(bits, 2048)))
+        imm_op(f.funct3, 0).map(|op| Inst::Imm(op, rd, rs1, signed_of(bits, 2048)))
     }
 }
 
+// In word forms the amount has five bits, and the sixth belongs to the seven that tell which shift it is.
 fn imm_word_of(f: Fields) -> Option<Inst>
     requires { IsInWidth f }
     ensures { result ≡ decode_group f ImmWords }
 {
     let bits = f.rs2 + 32 * f.funct7;
-    let (d, a) = (f.rd as u8, f.rs1 as u8);
+    let (rd, rs1) = (f.rd as u8, f.rs1 as u8);
     if f.funct3 == 1 || f.funct3 == 5 {
-        imm_word_op(f.funct3, bits / 32).map(|op| Inst::ImmWord(op, d, a, (bits % 32) as i32))
+        imm_word_op(f.funct3, bits / 32).map(|op| Inst::ImmWord(op, rd, rs1, (bits % 32) as i32))
     } else {
-        imm_word_op(f.funct3, 0).map(|op| Inst::ImmWord(op, d, a, signed_of(bits, 2048)))
+        imm_word_op(f.funct3, 0).map(|op| Inst::ImmWord(op, rd, rs1, signed_of(bits, 2048)))
     }
 }
 
@@ -109,6 +121,7 @@ fn fields_of(word: u32) -> Fields
     }
 }
 
+// The number from -half to half - 1 that has these bits in two's complement.
 fn signed_of(bits: u32, half: u32) -> i32
     requires half { half ≤ 2 ^ 20 }
     requires range { bits < half + half }
@@ -194,15 +207,15 @@ fn imm_op(funct3: u32, upper: u32) -> Option<ImmOp>
     ensures { result ≡ find_key imm_key imm_ops (key funct3 upper) }
 {
     match (funct3, upper) {
-        (0, 0) => Some(ImmOp::Addi),
-        (2, 0) => Some(ImmOp::Slti),
-        (3, 0) => Some(ImmOp::Sltiu),
-        (4, 0) => Some(ImmOp::Xori),
-        (6, 0) => Some(ImmOp::Ori),
-        (7, 0) => Some(ImmOp::Andi),
-        (1, 0) => Some(ImmOp::Slli),
-        (5, 0) => Some(ImmOp::Srli),
-        (5, 16) => Some(ImmOp::Srai),
+        (0, 0x00) => Some(ImmOp::Addi),
+        (2, 0x00) => Some(ImmOp::Slti),
+        (3, 0x00) => Some(ImmOp::Sltiu),
+        (4, 0x00) => Some(ImmOp::Xori),
+        (6, 0x00) => Some(ImmOp::Ori),
+        (7, 0x00) => Some(ImmOp::Andi),
+        (1, 0x00) => Some(ImmOp::Slli),
+        (5, 0x00) => Some(ImmOp::Srli),
+        (5, 0x10) => Some(ImmOp::Srai),
         _ => None,
     }
 }
@@ -212,10 +225,10 @@ fn imm_word_op(funct3: u32, upper: u32) -> Option<ImmWordOp>
     ensures { result ≡ find_key imm_word_key imm_word_ops (key funct3 upper) }
 {
     match (funct3, upper) {
-        (0, 0) => Some(ImmWordOp::Addiw),
-        (1, 0) => Some(ImmWordOp::Slliw),
-        (5, 0) => Some(ImmWordOp::Srliw),
-        (5, 32) => Some(ImmWordOp::Sraiw),
+        (0, 0x00) => Some(ImmWordOp::Addiw),
+        (1, 0x00) => Some(ImmWordOp::Slliw),
+        (5, 0x00) => Some(ImmWordOp::Srliw),
+        (5, 0x20) => Some(ImmWordOp::Sraiw),
         _ => None,
     }
 }
@@ -225,16 +238,16 @@ fn reg_word_op(funct3: u32, upper: u32) -> Option<RegWordOp>
     ensures { result ≡ find_key reg_word_key reg_word_ops (key funct3 upper) }
 {
     match (funct3, upper) {
-        (0, 0) => Some(RegWordOp::Addw),
-        (0, 32) => Some(RegWordOp::Subw),
-        (1, 0) => Some(RegWordOp::Sllw),
-        (5, 0) => Some(RegWordOp::Srlw),
-        (5, 32) => Some(RegWordOp::Sraw),
-        (0, 1) => Some(RegWordOp::Mulw),
-        (4, 1) => Some(RegWordOp::Divw),
-        (5, 1) => Some(RegWordOp::Divuw),
-        (6, 1) => Some(RegWordOp::Remw),
-        (7, 1) => Some(RegWordOp::Remuw),
+        (0, 0x00) => Some(RegWordOp::Addw),
+        (0, 0x20) => Some(RegWordOp::Subw),
+        (1, 0x00) => Some(RegWordOp::Sllw),
+        (5, 0x00) => Some(RegWordOp::Srlw),
+        (5, 0x20) => Some(RegWordOp::Sraw),
+        (0, 0x01) => Some(RegWordOp::Mulw),
+        (4, 0x01) => Some(RegWordOp::Divw),
+        (5, 0x01) => Some(RegWordOp::Divuw),
+        (6, 0x01) => Some(RegWordOp::Remw),
+        (7, 0x01) => Some(RegWordOp::Remuw),
         _ => None,
     }
 }

@@ -4,9 +4,13 @@ ghost use Rattle.std.specs.Prelude.{◌≡◌, ◌≤◌, ◌<◌, ◌^◌, ◌+
 ghost use Rattle.rv_isa.specs.Layout.{word, IsInWidth, unsigned, InSigned, r_fields, i_fields, s_fields, b_fields, u_fields, j_order};
 ghost use Rattle.rv_isa.specs.Table.{encode_word, encode_fields, decode_word, InRange, branch_key, load_key, store_key, imm_key, reg_key, imm_word_key, reg_word_key};
 
-use crate::inst::{BranchOp, Fields, ImmOp, ImmWordOp, Inst, LoadOp, RegOp, RegWordOp, StoreOp};
+use crate::inst::{
+    BranchOp, Fields, ImmOp, ImmWordOp, Inst, LoadOp, RegOp, RegWordOp, StoreOp, opcode,
+};
 
-/// The word of an instruction.
+/// The word of an instruction whose registers and immediate are in range (`fits` is the test).
+///
+/// Formats and rows are those of the RISC-V Instruction Set Manual, Volume I: Unprivileged ISA, RV64I and M.
 pub fn encode(inst: &Inst) -> u32
     requires { InRange inst.now }
     ensures word { result ≡ encode_word inst.now }
@@ -20,110 +24,128 @@ fn fields_for(inst: &Inst) -> Fields
     ensures { result ≡ encode_fields inst.now }
 {
     match *inst {
-        Inst::Lui(d, value) => u_fields_of(0x37, d, unsigned_of(value, 1 << 19)),
-        Inst::Auipc(d, value) => u_fields_of(0x17, d, unsigned_of(value, 1 << 19)),
-        Inst::Jal(d, value) => u_fields_of(0x6f, d, j_order_of(unsigned_of(value, 1 << 20))),
-        Inst::Jalr(d, a, value) => i_fields_of(0x67, 0, d, a, unsigned_of(value, 2048)),
-        Inst::Branch(op, a, b, value) => b_fields_of(
+        Inst::Lui(rd, imm) => u_fields_of(opcode::LUI, rd, unsigned_of(imm, 1 << 19)),
+        Inst::Auipc(rd, imm) => u_fields_of(opcode::AUIPC, rd, unsigned_of(imm, 1 << 19)),
+        Inst::Jal(rd, imm) => u_fields_of(opcode::JAL, rd, j_order_of(unsigned_of(imm, 1 << 20))),
+        Inst::Jalr(rd, rs1, imm) => i_fields_of(opcode::JALR, 0, rd, rs1, unsigned_of(imm, 2048)),
+        Inst::Branch(op, rs1, rs2, imm) => b_fields_of(
             branch_funct(op),
-            a,
-            b,
-            unsigned_of(value, 4096),
+            rs1,
+            rs2,
+            unsigned_of(imm, 4096),
         ),
-        Inst::Load(op, d, a, value) => i_fields_of(
-            0x03,
+        Inst::Load(op, rd, rs1, imm) => i_fields_of(
+            opcode::LOAD,
             load_funct(op),
-            d,
-            a,
-            unsigned_of(value, 2048),
+            rd,
+            rs1,
+            unsigned_of(imm, 2048),
         ),
-        Inst::Store(op, a, b, value) => s_fields_of(
+        Inst::Store(op, rs1, rs2, imm) => s_fields_of(
             store_funct(op),
-            a,
-            b,
-            unsigned_of(value, 2048),
+            rs1,
+            rs2,
+            unsigned_of(imm, 2048),
         ),
-        Inst::Imm(op, d, a, value) => {
+        Inst::Imm(op, rd, rs1, imm) => {
             let (funct3, upper) = imm_functs(op);
-            i_fields_of(0x13, funct3, d, a, unsigned_of(value, 2048) + 64 * upper)
+            i_fields_of(
+                opcode::OP_IMM,
+                funct3,
+                rd,
+                rs1,
+                unsigned_of(imm, 2048) + 64 * upper,
+            )
         }
-        Inst::Reg(op, d, a, b) => {
+        Inst::Reg(op, rd, rs1, rs2) => {
             let (funct3, funct7) = reg_functs(op);
-            r_fields_of(0x33, funct3, funct7, d, a, b)
+            r_fields_of(opcode::OP, funct3, funct7, rd, rs1, rs2)
         }
-        Inst::ImmWord(op, d, a, value) => {
+        Inst::ImmWord(op, rd, rs1, imm) => {
             let (funct3, upper) = imm_word_functs(op);
-            i_fields_of(0x1b, funct3, d, a, unsigned_of(value, 2048) + 32 * upper)
+            i_fields_of(
+                opcode::OP_IMM_32,
+                funct3,
+                rd,
+                rs1,
+                unsigned_of(imm, 2048) + 32 * upper,
+            )
         }
-        Inst::RegWord(op, d, a, b) => {
+        Inst::RegWord(op, rd, rs1, rs2) => {
             let (funct3, funct7) = reg_word_functs(op);
-            r_fields_of(0x3b, funct3, funct7, d, a, b)
+            r_fields_of(opcode::OP_32, funct3, funct7, rd, rs1, rs2)
         }
-        Inst::Fence(d, a, value) => i_fields_of(0x0f, 0, d, a, unsigned_of(value, 2048)),
-        Inst::Ecall => i_fields_of(0x73, 0, 0, 0, 0),
-        Inst::Ebreak => i_fields_of(0x73, 0, 0, 0, 1),
+        Inst::Fence(rd, rs1, imm) => i_fields_of(
+            opcode::MISC_MEM,
+            0,
+            rd,
+            rs1,
+            unsigned_of(imm, 2048),
+        ),
+        Inst::Ecall => i_fields_of(opcode::SYSTEM, 0, 0, 0, 0),
+        Inst::Ebreak => i_fields_of(opcode::SYSTEM, 0, 0, 0, 1),
     }
 }
 
-fn r_fields_of(opcode: u32, funct3: u32, funct7: u32, d: u8, a: u8, b: u8) -> Fields
-    ensures { result ≡ r_fields opcode funct3 funct7 d a b }
+fn r_fields_of(opcode: u32, funct3: u32, funct7: u32, rd: u8, rs1: u8, rs2: u8) -> Fields
+    ensures { result ≡ r_fields opcode funct3 funct7 rd rs1 rs2 }
 {
     Fields {
         opcode,
-        rd: d as u32,
+        rd: rd as u32,
         funct3,
-        rs1: a as u32,
-        rs2: b as u32,
+        rs1: rs1 as u32,
+        rs2: rs2 as u32,
         funct7,
     }
 }
 
-fn i_fields_of(opcode: u32, funct3: u32, d: u8, a: u8, bits: u32) -> Fields
-    ensures { result ≡ i_fields opcode funct3 d a bits }
+fn i_fields_of(opcode: u32, funct3: u32, rd: u8, rs1: u8, bits: u32) -> Fields
+    ensures { result ≡ i_fields opcode funct3 rd rs1 bits }
 {
     Fields {
         opcode,
-        rd: d as u32,
+        rd: rd as u32,
         funct3,
-        rs1: a as u32,
+        rs1: rs1 as u32,
         rs2: bits & 0x1f,
         funct7: bits >> 5,
     }
 }
 
-fn s_fields_of(funct3: u32, a: u8, b: u8, bits: u32) -> Fields
-    ensures { result ≡ s_fields 0x23 funct3 a b bits }
+fn s_fields_of(funct3: u32, rs1: u8, rs2: u8, bits: u32) -> Fields
+    ensures { result ≡ s_fields 0x23 funct3 rs1 rs2 bits }
 {
     Fields {
-        opcode: 0x23,
+        opcode: opcode::STORE,
         rd: bits & 0x1f,
         funct3,
-        rs1: a as u32,
-        rs2: b as u32,
+        rs1: rs1 as u32,
+        rs2: rs2 as u32,
         funct7: bits >> 5,
     }
 }
 
-fn b_fields_of(funct3: u32, a: u8, b: u8, bits: u32) -> Fields
+fn b_fields_of(funct3: u32, rs1: u8, rs2: u8, bits: u32) -> Fields
     requires { bits < 2 ^ 13 }
-    ensures { result ≡ b_fields 0x63 funct3 a b bits }
+    ensures { result ≡ b_fields 0x63 funct3 rs1 rs2 bits }
 {
     Fields {
-        opcode: 0x63,
+        opcode: opcode::BRANCH,
         rd: bits >> 11 & 1 | (bits >> 1 & 0xf) << 1,
         funct3,
-        rs1: a as u32,
-        rs2: b as u32,
+        rs1: rs1 as u32,
+        rs2: rs2 as u32,
         funct7: bits >> 5 & 0x3f | bits >> 12 << 6,
     }
 }
 
-fn u_fields_of(opcode: u32, d: u8, bits: u32) -> Fields
-    ensures { result ≡ u_fields opcode d bits }
+fn u_fields_of(opcode: u32, rd: u8, bits: u32) -> Fields
+    ensures { result ≡ u_fields opcode rd bits }
 {
     Fields {
         opcode,
-        rd: d as u32,
+        rd: rd as u32,
         funct3: bits & 7,
         rs1: bits >> 3 & 0x1f,
         rs2: bits >> 8 & 0x1f,
@@ -131,6 +153,7 @@ fn u_fields_of(opcode: u32, d: u8, bits: u32) -> Fields
     }
 }
 
+// A jump's bits in the order in which the upper twenty bits of its word have them.
 fn j_order_of(bits: u32) -> u32
     requires { bits < 2 ^ 21 }
     ensures { result ≡ j_order bits }
@@ -150,6 +173,7 @@ fn word_of(fields: Fields) -> u32
         | fields.funct7 << 25
 }
 
+// Two's complement of a number from -half to half - 1.
 fn unsigned_of(value: i32, half: u32) -> u32
     requires half { half ≤ 2 ^ 20 }
     requires range { InSigned half value }
@@ -231,15 +255,15 @@ fn imm_functs(op: ImmOp) -> (u32, u32)
     ensures upper { result.1 ≡ imm_key op / 8 }
 {
     match op {
-        ImmOp::Addi => (0, 0),
-        ImmOp::Slti => (2, 0),
-        ImmOp::Sltiu => (3, 0),
-        ImmOp::Xori => (4, 0),
-        ImmOp::Ori => (6, 0),
-        ImmOp::Andi => (7, 0),
-        ImmOp::Slli => (1, 0),
-        ImmOp::Srli => (5, 0),
-        ImmOp::Srai => (5, 16),
+        ImmOp::Addi => (0, 0x00),
+        ImmOp::Slti => (2, 0x00),
+        ImmOp::Sltiu => (3, 0x00),
+        ImmOp::Xori => (4, 0x00),
+        ImmOp::Ori => (6, 0x00),
+        ImmOp::Andi => (7, 0x00),
+        ImmOp::Slli => (1, 0x00),
+        ImmOp::Srli => (5, 0x00),
+        ImmOp::Srai => (5, 0x10),
     }
 }
 
@@ -248,10 +272,10 @@ fn imm_word_functs(op: ImmWordOp) -> (u32, u32)
     ensures upper { result.1 ≡ imm_word_key op / 8 }
 {
     match op {
-        ImmWordOp::Addiw => (0, 0),
-        ImmWordOp::Slliw => (1, 0),
-        ImmWordOp::Srliw => (5, 0),
-        ImmWordOp::Sraiw => (5, 32),
+        ImmWordOp::Addiw => (0, 0x00),
+        ImmWordOp::Slliw => (1, 0x00),
+        ImmWordOp::Srliw => (5, 0x00),
+        ImmWordOp::Sraiw => (5, 0x20),
     }
 }
 
@@ -260,15 +284,15 @@ fn reg_word_functs(op: RegWordOp) -> (u32, u32)
     ensures upper { result.1 ≡ reg_word_key op / 8 }
 {
     match op {
-        RegWordOp::Addw => (0, 0),
-        RegWordOp::Subw => (0, 32),
-        RegWordOp::Sllw => (1, 0),
-        RegWordOp::Srlw => (5, 0),
-        RegWordOp::Sraw => (5, 32),
-        RegWordOp::Mulw => (0, 1),
-        RegWordOp::Divw => (4, 1),
-        RegWordOp::Divuw => (5, 1),
-        RegWordOp::Remw => (6, 1),
-        RegWordOp::Remuw => (7, 1),
+        RegWordOp::Addw => (0, 0x00),
+        RegWordOp::Subw => (0, 0x20),
+        RegWordOp::Sllw => (1, 0x00),
+        RegWordOp::Srlw => (5, 0x00),
+        RegWordOp::Sraw => (5, 0x20),
+        RegWordOp::Mulw => (0, 0x01),
+        RegWordOp::Divw => (4, 0x01),
+        RegWordOp::Divuw => (5, 0x01),
+        RegWordOp::Remw => (6, 0x01),
+        RegWordOp::Remuw => (7, 0x01),
     }
 }

@@ -1,0 +1,6 @@
+use Rattle.std.proofs.Common.{◌≡◌, ◌+◌, ◌-◌, get_or}
+use Rattle.elf_file.specs.Numbers.{read}
+use Rattle.elf_file.proofs.numbers.read_le.Given as goal
+
+abbrev pub invariant-loop-k : goal.invariant-loop-k
+invariant-loop-k l = l.value ≡ read (l.count - l.k) (λ x. get_or l.bytes x 0) (l.at + l.k)

@@ -1,0 +1,4 @@
+pub mod Writes
+pub mod Lines
+pub mod Constants
+pub mod Pieces
