@@ -68,10 +68,10 @@ pub record Forced (bytes code file : List ℕ) (memory : ℕ) : Type 0 where
   pub sizes : SizesFit (length code) (length file) memory
 
 -- a list of known length before another
-before : (n : ℕ) (xs ys bytes : List ℕ) → length xs ≡ n → bytes ≡ xs ++ ys → take n bytes ≡ xs
+pub before : (n : ℕ) (xs ys bytes : List ℕ) → length xs ≡ n → bytes ≡ xs ++ ys → take n bytes ≡ xs
 before n xs ys bytes l e = ap (take n) e ∙ ap (λ k. take k (xs ++ ys)) (sym l) ∙ take-append_seam xs ys
 
-behind : (n : ℕ) (xs ys bytes : List ℕ) → length xs ≡ n → bytes ≡ xs ++ ys → drop n bytes ≡ ys
+pub behind : (n : ℕ) (xs ys bytes : List ℕ) → length xs ≡ n → bytes ≡ xs ++ ys → drop n bytes ≡ ys
 behind n xs ys bytes l e = ap (drop n) e ∙ ap (λ k. drop k (xs ++ ys)) (sym l) ∙ drop-append_seam xs ys
 
 pub forced : (bytes code file : List ℕ) (memory : ℕ) → Shape bytes code file memory → Forced bytes code file memory

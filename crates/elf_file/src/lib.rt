@@ -8,5 +8,5 @@ mod tests;
 mod writing;
 
 pub use finding::{Parts, find_parts};
-pub use numbers::read_le;
+pub use numbers::{push_le, read_le};
 pub use writing::{data_address, elf_bytes};

@@ -19,8 +19,8 @@ pub fn read_le(bytes: &[u8], at: usize, count: usize) -> u64
     value
 }
 
-// Appends the low `count` bytes of a number.
-pub(crate) fn push_le(bytes: &mut Vec<u8>, count: usize, value: u64) -> Result<(), AllocError>
+/// Appends the low `count` bytes of a number, the lowest first.
+pub fn push_le(bytes: &mut Vec<u8>, count: usize, value: u64) -> Result<(), AllocError>
     ensures { OnOk result (bytes.new.items ≡ bytes.old.items ++ le count value) }
 {
     let mut rest = value;

@@ -11,7 +11,7 @@ use std::hash::{Hash, Hasher};
 use std::marker::Model;
 
 /// A name, which contracts see as its bytes.
-#[derive(Drop)]
+#[derive(Debug, Drop)]
 pub struct Name {
     bytes: List<u8>,
 }

@@ -1,16 +1,8 @@
--- Numbers in bytes.
-use Rattle.std.proofs.Common.{◌≡◌, ℕ, zero, suc, ◌+◌, ◌-◌, ◌/◌, ◌%◌, ◌^◌, ◌<◌, ◌≤◌, cond, nat_eq, List, length, get_or, set, refl, ap, arith, Bool, true, false, eqb-true, lit<, get_or-set_same, get_or-set_other}
+-- Bytes that are written.
+use Rattle.std.proofs.Common.{◌≡◌, ℕ, suc, ◌+◌, ◌-◌, ◌/◌, ◌%◌, ◌<◌, cond, nat_eq, List, length, get_or, set, refl, ap, arith, Bool, true, false, eqb-true, get_or-set_same, get_or-set_other}
 use Rattle.std.proofs.Math.Path.{fun_ext}
-use Rattle.std.proofs.Math.Nat.{pow-suc, pow-le-pow_right}
 use Rattle.std.proofs.lemmas.Bool.{eqb-false}
-use Rattle.rv_machine.specs.Memory.{Memory, put_byte, read, write}
-
-pub read-below : (n : ℕ) (m : Memory) (a : ℕ) → ((x : ℕ) → m x < 256) → read n m a < 256 ^ n
-read-below zero m a h = omega arith
-read-below (suc n) m a h = let r = read-below n m (a + 1) h in let b = h a in omega (arith, pow-suc 256 n)
-
-pub read_below_56 : (n : ℕ) (m : Memory) (a : ℕ) → n ≤ 7 → ((x : ℕ) → m x < 256) → read n m a < 2 ^ 56
-read_below_56 n m a h b = let r = read-below n m a b in let p : 256 ^ n ≤ 256 ^ 7 = pow-le-pow_right (lit< tt) h in omega (arith, p, r)
+use Rattle.rv_machine.specs.Memory.{put_byte, write}
 
 pub put_byte-set : (xs : List ℕ) (i b : ℕ) → i < length xs → (λ y. get_or (set xs i b) y 0) ≡ put_byte i b (λ y. get_or xs y 0)
 put_byte-set xs i b h = fun_ext (λ y. go y (nat_eq y i) refl)

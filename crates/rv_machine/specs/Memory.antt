@@ -1,5 +1,7 @@
 -- A memory of bytes, and little-endian numbers in it.
-use Rattle.std.specs.Prelude.{ℕ, zero, suc, ◌+◌, ◌*◌, ◌/◌, ◌%◌, cond, nat_eq}
+use Rattle.std.specs.Prelude.{ℕ, zero, suc, ◌+◌, ◌/◌, ◌%◌, cond, nat_eq}
+-- the number in n bytes from a on
+pub use Rattle.elf_file.specs.Numbers.{read}
 
 -- the byte at each address
 abbrev pub Memory : Type 0
@@ -7,11 +9,6 @@ Memory = ℕ → ℕ
 
 abbrev pub put_byte : ℕ → ℕ → Memory → Memory
 put_byte a b m x = cond (nat_eq x a) b (m x)
-
--- the number in n bytes from a on
-abbrev pub read : ℕ → Memory → ℕ → ℕ
-read zero m a = 0
-read (suc n) m a = m a + 256 * read n m (a + 1)
 
 -- the low n bytes of v from a on
 abbrev pub write : ℕ → ℕ → ℕ → Memory → Memory

@@ -10,9 +10,9 @@ ghost use Rattle.rv_machine.specs.Lines.{within_line};
 ghost use Rattle.rv_machine.specs.Runs.{IsPart};
 ghost use Rattle.rv_machine.specs.Kept.{state_of};
 
-use crate::bytes::read_le;
 use crate::kept::Machine;
 use crate::outcome::{Outcome, TrapCause, WriteFault};
+use elf_file::read_le;
 use rn_ports::Sink;
 use rv_isa::{ImmOp, ImmWordOp, Inst, LoadOp, RegOp, StoreOp, decode};
 

@@ -5,9 +5,10 @@ ghost use Rattle.rv_machine.specs.Memory.{read};
 ghost use Rattle.rv_machine.specs.Machine.{is_readable, is_writable, stored, loaded, kept};
 ghost use Rattle.rv_machine.specs.Kept.{state_of};
 
-use crate::bytes::{read_le, write_le};
+use crate::bytes::write_le;
 use crate::kept::Machine;
 use crate::outcome::TrapCause;
+use elf_file::read_le;
 
 impl Machine {
     fn is_readable(&self, count: u64, at: u64) -> bool

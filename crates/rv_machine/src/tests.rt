@@ -1,7 +1,9 @@
 //! Small programs, in words that `riscv64-linux-gnu-as` gives.
 
 use crate::kept::Machine;
+use crate::loading::ElfRefused;
 use crate::outcome::{Outcome, TrapCause, WriteFault};
+use elf_file::elf_bytes;
 use rn_ports::MemSink;
 use std::alloc::Global;
 use std::process::Abort;
@@ -278,5 +280,35 @@ fn steps_and_faults(rt: HostRuntime) -> Result<(), Fail> {
         "the last step"
     );
     assert_eq!(rt; out.bytes(), b"ABCD".as_slice());
+    Ok(())
+}
+
+#[test]
+fn loads(rt: HostRuntime) -> Result<(), Fail> {
+    let alloc = rt.alloc();
+    // auipc t0, 1; ld a0, 0(t0); li a7, 1; ecall; ld a0, 8(t0); ecall; li a7, 93; ecall
+    let words: [u32; 8] = [
+        0x00001297, 0x0002B503, 0x00100893, 0x00000073, 0x0082B503, 0x00000073, 0x05D00893,
+        0x00000073,
+    ];
+    let mut code = Vec::new(alloc);
+    for word in &words {
+        code.extend_from_slice(word.to_le_bytes().as_slice())?;
+    }
+    assert_eq!(rt; code.len(), 32);
+    // two units of data, of which the file has the first
+    let mut elf = elf_bytes(alloc, code.as_slice(), &[7, 0, 0, 0, 0, 0, 0, 0], 16)?;
+    let mut machine = Machine::load(alloc, elf.as_slice(), Vec::new(alloc)).map_err(
+        |_| "the file is refused",
+    )?;
+    let mut out = MemSink::new(alloc, 100, Vec::new(alloc))?;
+    assert_eq!(rt; machine.run(100, &mut out), Ok(Outcome::Halted(0)));
+    assert_eq!(rt; out.bytes(), b"70".as_slice());
+    elf.push(0)?;
+    let longer = Machine::load(alloc, elf.as_slice(), Vec::new(alloc));
+    assert!(rt;
+        matches!(longer, Err(ElfRefused::Malformed)),
+        "a byte behind the file"
+    );
     Ok(())
 }

@@ -1,5 +1,5 @@
 -- Thin programs as lists of statements.
-use Rattle.std.specs.Prelude.{◌≡◌, ℕ, ◌+◌, ◌*◌, ◌≤◌, ◌<◌, pos, ◌≤ℤ◌, List, [], ◌∷◌, ◌++◌, length, sum_by}
+use Rattle.std.specs.Prelude.{◌≡◌, ◌^◌, ℕ, ◌+◌, ◌*◌, ◌≤◌, ◌<◌, pos, ◌≤ℤ◌, List, [], ◌∷◌, ◌++◌, length, sum_by}
 use Rattle.std.specs.List.{All}
 use Rattle.thin_form.specs.declared.statement.Term.{Term}
 use Rattle.thin_form.specs.declared.statement.Term.TheVariants.{Variable, Integer}
@@ -31,7 +31,7 @@ size_of End = 3
 -- A name has a character at least, and an integer has no sign.
 abbrev pub IsTerm : Term → Type 0
 IsTerm (Variable name) = 0 < length name
-IsTerm (Integer value) = pos 0 ≤ℤ value
+IsTerm (Integer value) = (n : ℕ) × ((n < 2 ^ 63) × (value ≡ pos n))
 
 abbrev pub IsItem : Item → Type 0
 IsItem (Value term) = IsTerm term
@@ -43,9 +43,14 @@ IsPlain (Assign target first more) = (0 < length target) × (IsTerm first × All
 IsPlain (Print items) = All IsItem items
 IsPlain End = ⊥
 
--- A program is statements with END as the last and nowhere before, in at most 20,000 tokens.
+-- it can stand on one line, in columns 7 to 72
+abbrev pub IsShort : Statement → Type 0
+IsShort statement = size_of statement ≤ 66
+
+-- A program is statements with END as the last and nowhere before, in at most 20,000 tokens, each on one line.
 pub record IsProgram (body : List Statement) : Type 0 where
   pub front : List Statement
   pub ends : body ≡ front ++ End ∷ []
   pub plain : All IsPlain front
   pub few : sum_by tokens_of body ≤ 20000
+  pub short : All IsShort body
