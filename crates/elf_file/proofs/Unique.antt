@@ -1,8 +1,8 @@
 -- Bytes are the file of one code, one list of data bytes and one memory size.
-use Rattle.std.proofs.Common.{◌≡◌, ℕ, ◌+◌, List, ◌++◌, length, take, drop, refl, sym, ap, ◌∙◌, arith}
+use Rattle.std.proofs.Common.{◌≡◌, ℕ, ◌+◌, List, ◌++◌, length, take, drop, refl, sym, ap, ◌∙◌}
 use Rattle.std.proofs.lemmas.List.{drop-drop}
 use Rattle.elf_file.specs.Shape.{zeros, gap, data_offset, header, Shape}
-use Rattle.elf_file.proofs.Shapes.{Forced, forced, before, behind, length-header, length-zeros}
+use Rattle.elf_file.proofs.Shapes.{forced, before, behind, length-header, length-zeros}
 
 -- the parts of a file by their places
 pub record Parted (bytes code file : List ℕ) : Type 0 where
@@ -19,7 +19,7 @@ parted bytes code file memory h =
     let d3 : drop (4096 + c) bytes ≡ zeros g ++ file = sym (drop-drop c 4096 bytes) ∙ behind c code (zeros g ++ file) (drop 4096 bytes) refl d2 in
     record {
       code_is = sym (before c code (zeros g ++ file) (drop 4096 bytes) refl d2);
-      file_is = sym (sym (drop-drop g (4096 + c) bytes) ∙ behind g (zeros g) file (drop (4096 + c) bytes) (length-zeros g) d3)
+      file_is = sym (sym (drop-drop g (4096 + c) bytes) ∙ behind g (zeros g) file (drop (4096 + c) bytes) (length-zeros g) d3);
     }
 
 pub record SameParts (code file : List ℕ) (memory : ℕ) (code' file' : List ℕ) (memory' : ℕ) : Type 0 where
@@ -37,5 +37,5 @@ shape_unique bytes code file memory code' file' memory' h h' =
     record {
       same_code = p.code_is ∙ ap (λ n. take n (drop 4096 bytes)) c ∙ sym p'.code_is;
       same_file = p.file_is ∙ ap (λ n. drop (data_offset n) bytes) c ∙ sym p'.file_is;
-      same_memory = sym w.memory_read ∙ w'.memory_read
+      same_memory = sym w.memory_read ∙ w'.memory_read;
     }

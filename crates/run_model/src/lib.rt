@@ -8,11 +8,9 @@ ghost use Rattle.run_model.specs.Laws.{GoesOnWithMoreSteps, PlaysInOrder};
 /// A run that may begin more steps goes on where the shorter one stopped.
 pub fn longer_runs_law()
     ensures { GoesOnWithMoreSteps }
-{
-}
+{}
 
 /// Acts are played in their order.
 pub fn order_law()
     ensures { PlaysInOrder }
-{
-}
+{}

@@ -1,44 +1,27 @@
 -- The executable agrees with the program.
-use Rattle.std.proofs.Common.{◌≡◌, ◌≢◌, ℕ, zero, suc, ◌+◌, ◌-◌, ◌*◌, ◌%◌, ◌^◌, ◌≤◌, ◌<◌, ℤ, List, [], ◌∷◌, ◌++◌, length, take, drop, Bool, true, false, refl, sym, ap, ◌∙◌, subst, append_assoc, append-nil, arith, lit<, length-append, ◌⊎◌, inl, inr}
-use Rattle.std.specs.Prelude.{sum_by, nat_le}
+use Rattle.std.proofs.Common.{◌≡◌, ℕ, ◌+◌, ◌*◌, ◌≤◌, List, [], ◌∷◌, ◌++◌, length, take, drop, Bool, true, false, refl, sym, ap, ◌∙◌, subst, append_assoc, append-nil, arith, lit<}
+use Rattle.std.specs.Prelude.{nat_le}
 use Rattle.std.specs.List.{All}
 use Rattle.std.proofs.lemmas.List.{take-append-drop, take_all, drop_all}
 use Rattle.std.proofs.lemmas.Bool.Decides.{nat_tests}
 use Rattle.std.proofs.lemmas.List.Elements.{All-take}
-use Rattle.std.proofs.lemmas.List.Sums.{sum_by-cons, sum_by-append, sum_by-take-le, sum_by-le}
-use Rattle.run_model.specs.Acts.{World, Spent, Ended, Undefined, Outcome, Stop, Answer, no_calls}
-use Rattle.run_model.specs.Turns.{run_from}
-use Rattle.run_model.specs.Runs.{Run, Going, Finished, UndefinedAt, answer}
 use Rattle.thin_form.specs.declared.statement.Statement.{Statement}
 use Rattle.thin_form.specs.declared.statement.Statement.TheVariants.{End}
-use Rattle.thin_form.specs.Programs.{tokens_of, size_of, IsPlain, IsProgram}
+use Rattle.thin_form.specs.Programs.{IsPlain}
 use Rattle.rv_isa.specs.declared.inst.Inst.{Inst}
-use Rattle.rv_machine.specs.declared.outcome.Outcome.{Outcome as Status}
-use Rattle.rv_machine.specs.declared.outcome.Outcome.TheVariants.{Running, Halted, Trap}
+use Rattle.rv_machine.specs.declared.outcome.Outcome.TheVariants.{Halted, Trap}
 use Rattle.rv_machine.specs.declared.outcome.TrapCause.{TrapCause}
 use Rattle.rv_machine.specs.Machine.{State, run, output, set_reg}
-use Rattle.rv_machine.specs.Kept.{whole}
-use Rattle.rv_machine.specs.Start.{start, Loads}
 use Rattle.rv_machine.proofs.Steps.{halted_over, trap_over, stays}
 use Rattle.rv_code.specs.Line.{Goes, HasAt, IsNear, distance}
 use Rattle.rv_code.specs.Pieces.{Ready as Runs, jump_code, halt_code}
 use Rattle.rv_code.proofs.Lines.{goes_then, ready_first, has-rest}
 use Rattle.rv_code.proofs.Pieces.{jump_goes}
-use Rattle.elf_file.specs.Shape.{Shape, NoShape, zeros, data_at, gap, file_bytes}
-use Rattle.thin_code.specs.Layout.{names_of}
-use Rattle.thin_code.specs.Meaning.{Source, fresh, turn}
-use Rattle.thin_code.specs.Sizes.{weight_of, steps_each, words_each}
-use Rattle.thin_code.specs.Code.{Frame, statement_code, body_code, program_code, bytes_of, frame_of, file_of}
-use Rattle.thin_code.specs.Agreement.{Reaches, Ends, HasEnded, IsUndefined, Agrees, EndsWithin}
+use Rattle.thin_code.specs.Code.{Frame, body_code, program_code}
 use Rattle.thin_code.proofs.Effects.{IsSound}
-use Rattle.thin_code.proofs.Acting.{Ready, Acts, Halts, halts, acts_none, acts_then}
+use Rattle.thin_code.proofs.Acting.{Ready, Acts, halts}
 use Rattle.thin_code.proofs.Bodies.{text_of, memory_of, acts_statements, body_code-append}
-use Rattle.thin_code.proofs.Sourced.{Holds}
-use Rattle.thin_code.proofs.Stepped.{Comes, going, ended, undefined, comes, turn_of}
-use Rattle.thin_code.proofs.Counts.{body_words, length-body, body_weight, body_size, statement_words}
-use Rattle.thin_code.proofs.Ranges.{program_fits}
-use Rattle.thin_code.proofs.Stands.{stand, length-bytes_of}
-use Rattle.thin_code.proofs.Placed.{sound}
+use Rattle.thin_code.proofs.Counts.{body_words, length-body}
 
 -- ---- the machine's run of a program in a frame
 
@@ -67,9 +50,14 @@ acts_jump f rest s r =
       ready = record {
         at = refl;
         runs = record { runs = r.runs.runs; here = has-rest s.mem s.code_end 65536 (jump_code 65536 65544) rest code; apart = r.runs.apart; within = r.runs.within; below = r.runs.below };
-        zero = refl; low = omega arith; data_is = r.data_is; end_is = r.end_is; aligned = r.aligned; near = r.near
+        zero = refl;
+        low = omega arith;
+        data_is = r.data_is;
+        end_is = r.end_is;
+        aligned = r.aligned;
+        near = r.near;
       };
-      mem = refl
+      mem = refl;
     }
 
 -- the code of a program up to statement n, and the rest
@@ -93,7 +81,7 @@ done f front s n b =
     record {
       then = two'.then;
       goes = subst (λ k. Goes k s two'.then (text_of f s.mem xs)) words (goes_then one.goes two'.goes);
-      ready = subst (λ p. Ready f B p two'.then) at two'.ready
+      ready = subst (λ p. Ready f B p two'.then) at two'.ready;
     }
 
 -- END halts behind the last statement.
@@ -115,7 +103,7 @@ over f front s b =
     let text : text_of f s.mem (take n front) ++ [] ≡ text_of f s.mem front = append-nil _ ∙ ap (text_of f s.mem) whole in
     record {
       halts = ap (λ k. (run k s).outcome) (sym count) ∙ ap (λ t. t.outcome) g.stands ∙ h.halted;
-      prints = ap (λ k. output k s) (sym count) ∙ g.prints ∙ text
+      prints = ap (λ k. output k s) (sym count) ∙ g.prints ∙ text;
     }
 
 -- a machine that halts never traps, and stays as it is

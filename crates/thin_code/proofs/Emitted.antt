@@ -1,6 +1,5 @@
 -- Code behind code.
-use Rattle.std.proofs.Common.{◌≡◌, ℕ, suc, ◌+◌, ◌*◌, ◌≤◌, ◌<◌, List, [], ◌∷◌, ◌++◌, length, drop, refl, sym, ap, ◌∙◌, subst, append_assoc, append-nil, arith, length-append, drop-cons, get_or}
-use Rattle.std.specs.Prelude.{flat_map}
+use Rattle.std.proofs.Common.{◌≡◌, ℕ, suc, ◌+◌, ◌*◌, ◌≤◌, ◌<◌, List, [], ◌∷◌, ◌++◌, length, drop, sym, ap, ◌∙◌, subst, append_assoc, append-nil, arith, length-append, drop-cons, get_or}
 use Rattle.std.proofs.lemmas.Grind.{flat_map-append}
 use Rattle.std.proofs.lemmas.List.{drop_all}
 use Rattle.rv_isa.specs.declared.inst.Inst.{Inst}
@@ -22,7 +21,7 @@ emits_then {a = a} {b = b} {c = c} x y e g =
     let q : 65536 + length b ≡ p + 4 * length (x p) = ap (λ n. 65536 + n) (ap length e.bytes ∙ length-append a (bytes_of (x p)) ∙ ap (λ n. length a + n) (length-bytes_of (x p))) ∙ omega arith in
     record {
       bytes = g.bytes ∙ (λ i. e.bytes i ++ bytes_of (y (q i))) ∙ append_assoc a (bytes_of (x p)) (bytes_of (y (p + 4 * length (x p))))
-        ∙ ap (λ t. a ++ t) (sym (flat_map-append (λ i. le 4 (encode_word i)) (x p) (y (p + 4 * length (x p)))))
+          ∙ ap (λ t. a ++ t) (sym (flat_map-append (λ i. le 4 (encode_word i)) (x p) (y (p + 4 * length (x p)))));
     }
 
 -- ---- a loop over the parts of a list

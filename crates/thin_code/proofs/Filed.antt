@@ -1,19 +1,15 @@
 -- The file of a program, and the machine that starts on it.
-use Rattle.std.proofs.Common.{◌≡◌, ◌≢◌, ℕ, zero, suc, ◌+◌, ◌-◌, ◌*◌, ◌/◌, ◌%◌, ◌^◌, ◌≤◌, ◌<◌, ℤ, List, [], ◌∷◌, ◌++◌, length, refl, sym, ap, ◌∙◌, subst, append-nil, arith, lit<, length-append}
-use Rattle.std.specs.Prelude.{sum_by}
+use Rattle.std.proofs.Common.{◌≡◌, ℕ, ◌+◌, ◌-◌, ◌*◌, ◌≤◌, ℤ, List, [], ◌++◌, length, refl, sym, ap, ◌∙◌, subst, arith, length-append}
 use Rattle.std.specs.List.{All}
 use Rattle.std.proofs.lemmas.List.Sums.{sum_by-le}
 use Rattle.std.proofs.lemmas.List.Elements.{All-push}
 use Rattle.thin_form.specs.declared.statement.Statement.{Statement}
 use Rattle.thin_form.specs.declared.statement.Statement.TheVariants.{End}
-use Rattle.thin_form.specs.Programs.{tokens_of, size_of, IsPlain, IsProgram}
-use Rattle.rv_machine.specs.declared.outcome.Outcome.TheVariants.{Running}
+use Rattle.thin_form.specs.Programs.{size_of, IsProgram}
 use Rattle.rv_machine.specs.Machine.{State}
-use Rattle.rv_machine.specs.Kept.{whole}
 use Rattle.rv_machine.specs.Start.{start, Loads}
-use Rattle.rv_code.specs.Line.{HasAt}
-use Rattle.rv_code.specs.Pieces.{Ready as Runs, jump_code}
-use Rattle.elf_file.specs.Shape.{Shape, zeros, gap, data_offset, data_at, file_bytes}
+use Rattle.rv_code.specs.Pieces.{jump_code}
+use Rattle.elf_file.specs.Shape.{Shape, zeros, data_at, file_bytes}
 use Rattle.elf_file.proofs.Unique.{shape_unique}
 use Rattle.run_model.specs.Storage.{Name}
 use Rattle.thin_code.specs.Layout.{names_of}
@@ -70,9 +66,9 @@ shaped body p =
         units = refl;
         memory_units = omega arith;
         within = omega arith;
-        below = omega (arith, c, b.words, b.names)
+        below = omega (arith, c, b.words, b.names);
       };
-      bytes_are = refl
+      bytes_are = refl;
     }
 
 -- the machine that starts on the file
@@ -90,14 +86,14 @@ starts body p input =
         here = stand ([] ++ zeros (memory_size body - 0)) (data_at (length (code_of body))) (code_of body) [] (program_code f body) (omega arith) refl (program_fits f body sounds);
         apart = omega arith;
         within = omega (arith, c, b.words, b.names);
-        below = omega arith
+        below = omega arith;
       };
       zero = refl;
       low = omega arith;
       data_is = sym e;
       end_is = ap (λ n. n + memory_size body) (sym e);
       aligned = rw e (omega arith);
-      near = rw e (omega (arith, c, b.words, b.names))
+      near = rw e (omega (arith, c, b.words, b.names));
     }
   where
     sound_body : (body : List Statement) → (p : IsProgram body) → All (IsSound (frame_of body)) body
@@ -113,7 +109,7 @@ begun body p input s h =
     record {
       ready = subst (λ b. Ready f (program_code f b) 65536 s) p.ends (subst (Ready f (program_code f body) 65536) (sym e) (starts body p input));
       plain = p.plain;
-      sound = sound f p.front (ap names_of p.ends) p.plain
+      sound = sound f p.front (ap names_of p.ends) p.plain;
     }
 
 -- the frame that the linker makes: the code is measured with the data at address 0

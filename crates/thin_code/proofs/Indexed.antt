@@ -1,5 +1,5 @@
 -- Where nothing passes the test, the first place that does is the length.
-use Rattle.std.proofs.Common.{◌≡◌, ℕ, ◌≤◌, ◌<◌, List, length, Bool, true, false, Option, Some, None, cond, refl, arith}
+use Rattle.std.proofs.Common.{◌≡◌, ◌≤◌, List, length, Bool, true, false, Some, None, cond, refl, arith}
 use Rattle.std.specs.Prelude.{position, nat_lt, not}
 use Rattle.std.specs.List.{position_or_len}
 use Rattle.std.proofs.lemmas.Bool.{ltb-false}

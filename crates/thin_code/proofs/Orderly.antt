@@ -1,10 +1,9 @@
 -- What a program's run can come to.
-use Rattle.std.proofs.Common.{◌≡◌, ℕ, suc, ◌<◌, ℤ, List, [], ◌∷◌, ◌++◌, refl, sym, ap, subst, arith}
+use Rattle.std.proofs.Common.{ℕ, suc, ℤ, List, [], refl, sym, ap, subst, arith}
 use Rattle.run_model.specs.Acts.{Outcome, Answer, no_calls}
 use Rattle.run_model.specs.Turns.{turns}
 use Rattle.run_model.specs.Runs.{answer}
 use Rattle.thin_form.specs.declared.statement.Statement.{Statement}
-use Rattle.thin_form.specs.declared.statement.Statement.TheVariants.{End}
 use Rattle.thin_form.specs.Programs.{IsProgram}
 use Rattle.rv_machine.specs.Memory.{Memory}
 use Rattle.thin_code.specs.Layout.{names_of}

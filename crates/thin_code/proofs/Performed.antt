@@ -1,14 +1,10 @@
 -- A statement by its meaning does what its code does.
-use Rattle.std.proofs.Common.{◌≡◌, ◌≢◌, ℕ, suc, ◌+◌, ◌-◌, ◌*◌, ◌%◌, ◌^◌, ◌≤◌, ◌<◌, pos, ℤ, List, [], ◌∷◌, ◌++◌, length, Option, Some, None, Bool, true, false, cond, nat_eq, refl, sym, ap, ◌∙◌, subst, append_assoc, append-nil, arith, lit<, ◌⊎◌, inl, inr, eq-eqb, ne_eqb}
-use Rattle.std.specs.List.{All}
+use Rattle.std.proofs.Common.{◌≡◌, ◌≢◌, ℕ, suc, ◌+◌, ◌*◌, ◌%◌, ◌^◌, ◌≤◌, ◌<◌, ℤ, List, [], ◌∷◌, ◌++◌, length, Some, Bool, true, false, cond, nat_eq, refl, sym, ap, ◌∙◌, subst, append-nil, arith, ◌⊎◌}
 use Rattle.std.proofs.lemmas.Bool.Decides.{nat_tests}
-use Rattle.run_model.specs.Storage.{Name, Value as Stored, Integer as Number, Logical, Local, Loc, Cells, put_cell}
-use Rattle.run_model.specs.Acts.{World, Ended, Undefined, Outcome, Fine, Stop, then_do, Act, Done, Say, and_then, play, no_calls}
+use Rattle.run_model.specs.Storage.{Integer as Number, Local, Cells, put_cell}
+use Rattle.run_model.specs.Acts.{World, Undefined, Outcome, Fine, Stop, then_do, Act, Done, Say, and_then, play, no_calls}
 use Rattle.run_model.specs.Turns.{After, Again}
 use Rattle.run_model.proofs.Order.{play-and_then}
-use Rattle.thin_form.specs.declared.statement.Term.{Term}
-use Rattle.thin_form.specs.declared.statement.Addend.{Addend}
-use Rattle.thin_form.specs.declared.statement.Item.{Item}
 use Rattle.thin_form.specs.declared.statement.Statement.{Statement}
 use Rattle.thin_form.specs.declared.statement.Statement.TheVariants.{Assign, Print, End}
 use Rattle.thin_form.specs.Programs.{IsPlain}
@@ -17,7 +13,7 @@ use Rattle.rv_code.proofs.Writes.{read_same, read_other}
 use Rattle.thin_code.specs.Layout.{main, offset_of, location_of}
 use Rattle.thin_code.specs.Meaning.{value, sum_from, store, record_of, perform}
 use Rattle.thin_code.specs.Code.{Frame, address_of}
-use Rattle.thin_code.proofs.Effects.{word_of, sum_of, memory_after, record_text, statement_text, IsPlaced, IsSoundTerm, IsSoundItem, IsSoundSum, IsSound}
+use Rattle.thin_code.proofs.Effects.{word_of, sum_of, memory_after, record_text, statement_text, IsSound}
 use Rattle.thin_code.proofs.Sourced.{Means, Holds, Fares, gives, fails, Shows, shows, hides, value_fares, sum_fares, record_shows}
 
 -- storing to a variable keeps the other cells

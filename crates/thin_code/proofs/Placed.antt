@@ -1,11 +1,10 @@
 -- Each name of a program has its unit of storage.
-use Rattle.std.proofs.Common.{◌≡◌, ℕ, zero, suc, ◌+◌, ◌*◌, ◌≤◌, ◌<◌, List, [], ◌∷◌, ◌++◌, length, Bool, true, false, cond, refl, sym, ap, ◌∙◌, subst, arith, eq-eqb, length-append}
+use Rattle.std.proofs.Common.{◌≡◌, suc, ◌+◌, ◌≤◌, ◌<◌, List, [], ◌∷◌, ◌++◌, length, Bool, true, false, cond, refl, sym, ap, ◌∙◌, subst, arith, eq-eqb, length-append}
 use Rattle.std.specs.Prelude.{fold, flat_map, sum_by, ◌||◌, ◌&&◌, not}
 use Rattle.std.proofs.lemmas.List.Sums.{sum_by-cons}
-use Rattle.std.specs.List.{All, list_any, position_or_len}
-use Rattle.std.proofs.lemmas.List.Elements.{All-nil, All-cons, All-head, All-tail}
+use Rattle.std.specs.List.{All, list_any}
+use Rattle.std.proofs.lemmas.List.Elements.{All-nil, All-cons}
 use Rattle.std.proofs.lemmas.List.Folds.{list_any-append}
-use Rattle.std.proofs.lemmas.Bool.Decides.{nat_tests}
 use Rattle.std.proofs.lemmas.Bool.{false≢true}
 use Rattle.run_model.specs.Storage.{Name, name_eq}
 use Rattle.thin_form.specs.declared.statement.Term.{Term}
@@ -18,7 +17,7 @@ use Rattle.thin_form.specs.declared.statement.Statement.TheVariants.{Assign, Pri
 use Rattle.thin_form.specs.Programs.{tokens_of, IsTerm, IsItem, IsPlain}
 use Rattle.thin_code.specs.Layout.{term_names, item_names, statement_names, with_name, names_of, offset_of}
 use Rattle.thin_code.specs.Code.{Frame}
-use Rattle.thin_code.proofs.Effects.{IsPlaced, IsSoundTerm, IsSoundItem, IsSound}
+use Rattle.thin_code.proofs.Effects.{IsSoundTerm, IsSoundItem, IsSound}
 
 same_name : (v : Name) → name_eq v v ≡ true
 same_name [] = refl
@@ -80,8 +79,8 @@ sound_addends : (f : Frame) (more : List Addend) → All (λ a. IsTerm a.term) m
 sound_addends f [] h k = All-nil (λ a. IsSoundTerm f a.term)
 sound_addends f (a ∷ more) h k =
     All-cons (λ a. IsSoundTerm f a.term) a more
-      (sound_term f a.term (h 0 a (omega arith)) (known_first f.names (term_names a.term) (flat_map (λ a. term_names a.term) more) k))
-      (sound_addends f more (λ i d l. h (suc i) d (omega arith)) (known_rest f.names (term_names a.term) (flat_map (λ a. term_names a.term) more) k))
+    (sound_term f a.term (h 0 a (omega arith)) (known_first f.names (term_names a.term) (flat_map (λ a. term_names a.term) more) k))
+    (sound_addends f more (λ i d l. h (suc i) d (omega arith)) (known_rest f.names (term_names a.term) (flat_map (λ a. term_names a.term) more) k))
 
 sound_item : (f : Frame) (i : Item) → IsItem i → AllKnown f.names (item_names i) → IsSoundItem f i
 sound_item f (Text bytes) h k = h
@@ -91,15 +90,15 @@ sound_items : (f : Frame) (items : List Item) → All IsItem items → AllKnown 
 sound_items f [] h k = All-nil (IsSoundItem f)
 sound_items f (i ∷ items) h k =
     All-cons (IsSoundItem f) i items
-      (sound_item f i (h 0 i (omega arith)) (known_first f.names (item_names i) (flat_map item_names items) k))
-      (sound_items f items (λ j d l. h (suc j) d (omega arith)) (known_rest f.names (item_names i) (flat_map item_names items) k))
+    (sound_item f i (h 0 i (omega arith)) (known_first f.names (item_names i) (flat_map item_names items) k))
+    (sound_items f items (λ j d l. h (suc j) d (omega arith)) (known_rest f.names (item_names i) (flat_map item_names items) k))
 
 sound_statement : (f : Frame) (x : Statement) → IsPlain x → AllKnown f.names (statement_names x) → IsSound f x
 sound_statement f (Assign target first more) h k = record {
-    placed = placed f.names target k.0;
-    begins = sound_term f first h.1.0 (known_first f.names (term_names first) (flat_map (λ a. term_names a.term) more) k.1);
-    goes_on = sound_addends f more h.1.1 (known_rest f.names (term_names first) (flat_map (λ a. term_names a.term) more) k.1)
-  }
+  placed = placed f.names target k.0;
+  begins = sound_term f first h.1.0 (known_first f.names (term_names first) (flat_map (λ a. term_names a.term) more) k.1);
+  goes_on = sound_addends f more h.1.1 (known_rest f.names (term_names first) (flat_map (λ a. term_names a.term) more) k.1);
+}
 sound_statement f (Print items) h k = sound_items f items h k
 sound_statement f End h k = tt
 
@@ -107,8 +106,8 @@ sound_statements : (f : Frame) (xs : List Statement) → All IsPlain xs → AllK
 sound_statements f [] h k = All-nil (IsSound f)
 sound_statements f (x ∷ xs) h k =
     All-cons (IsSound f) x xs
-      (sound_statement f x (h 0 x (omega arith)) (known_first f.names (statement_names x) (flat_map statement_names xs) k))
-      (sound_statements f xs (λ j d l. h (suc j) d (omega arith)) (known_rest f.names (statement_names x) (flat_map statement_names xs) k))
+    (sound_statement f x (h 0 x (omega arith)) (known_first f.names (statement_names x) (flat_map statement_names xs) k))
+    (sound_statements f xs (λ j d l. h (suc j) d (omega arith)) (known_rest f.names (statement_names x) (flat_map statement_names xs) k))
 
 names_front : (front : List Statement) → flat_map statement_names (front ++ End ∷ []) ≡ flat_map statement_names front
 names_front [] = refl

@@ -1,5 +1,5 @@
 -- Every instruction of a program's code has a word.
-use Rattle.std.proofs.Common.{◌≡◌, ℕ, suc, ◌+◌, ◌-◌, ◌*◌, ◌/◌, ◌%◌, ◌^◌, ◌≤◌, ◌<◌, List, [], ◌∷◌, ◌++◌, length, arith, lit<}
+use Rattle.std.proofs.Common.{ℕ, suc, ◌+◌, ◌*◌, ◌/◌, ◌%◌, ◌^◌, ◌<◌, List, [], ◌∷◌, ◌++◌, length, arith, lit<}
 use Rattle.std.specs.Prelude.{flat_map}
 use Rattle.std.specs.List.{All}
 use Rattle.rv_isa.specs.declared.inst.Inst.{Inst}
@@ -8,7 +8,6 @@ use Rattle.rv_isa.proofs.Layouts.{reads}
 use Rattle.thin_form.specs.declared.statement.Term.{Term}
 use Rattle.thin_form.specs.declared.statement.Term.TheVariants.{Variable, Integer}
 use Rattle.thin_form.specs.declared.statement.Sign.{Sign}
-use Rattle.thin_form.specs.declared.statement.Sign.TheVariants.{Plus, Minus}
 use Rattle.thin_form.specs.declared.statement.Addend.{Addend}
 use Rattle.thin_form.specs.declared.statement.Item.{Item}
 use Rattle.thin_form.specs.declared.statement.Item.TheVariants.{Value, Text}

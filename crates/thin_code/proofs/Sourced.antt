@@ -1,14 +1,13 @@
 -- What statements do by their meaning, beside what their code does.
-use Rattle.std.proofs.Common.{◌≡◌, ℕ, suc, ◌+◌, ◌-◌, ◌*◌, ◌%◌, ◌^◌, ◌≤◌, ◌<◌, pos, ℤ, List, [], ◌∷◌, ◌++◌, length, Option, Some, None, Bool, true, false, cond, nat_eq, refl, sym, ap, ◌∙◌, subst, append_assoc, arith, lit<, ◌⊎◌, inl, inr, eq-eqb, ne_eqb}
+use Rattle.std.proofs.Common.{◌≡◌, ℕ, suc, ◌+◌, ◌-◌, ◌*◌, ◌%◌, ◌^◌, ◌<◌, pos, ℤ, List, [], ◌∷◌, ◌++◌, length, Option, Some, None, refl, sym, ap, ◌∙◌, subst, arith}
 use Rattle.std.specs.Prelude.{◌+ℤ◌, ◌-ℤ◌}
 use Rattle.std.specs.List.{All}
 use Rattle.std.specs.Int.{w64, int_wrap}
 use Rattle.std.specs.Fmt.{signed_decimal}
 use Rattle.std.proofs.lemmas.Int.{wrapping_add_onto, wrapping_sub_onto, of_z-to_z, to_z_pos}
 use Rattle.std.proofs.Math.Facts.{sfits_to_z, Fits-of_lt}
-use Rattle.run_model.specs.Storage.{Name, Value as Stored, Integer as Number, Logical, Local, Loc, Cells, put_cell}
-use Rattle.run_model.specs.Acts.{World, Ended, Undefined, Outcome, Fine, Stop, then_do, Act, Done, and_then, play, with_cell, no_calls}
-use Rattle.run_model.specs.Turns.{After, Again}
+use Rattle.run_model.specs.Storage.{Value as Stored, Integer as Number, Logical, Local, Cells}
+use Rattle.run_model.specs.Acts.{World, Undefined, Outcome, Fine, Stop, then_do, Act, Done, and_then, play, with_cell, no_calls}
 use Rattle.run_model.proofs.Order.{play-and_then}
 use Rattle.thin_form.specs.declared.statement.Term.{Term}
 use Rattle.thin_form.specs.declared.statement.Term.TheVariants.{Variable, Integer}
@@ -17,16 +16,12 @@ use Rattle.thin_form.specs.declared.statement.Sign.TheVariants.{Plus, Minus}
 use Rattle.thin_form.specs.declared.statement.Addend.{Addend}
 use Rattle.thin_form.specs.declared.statement.Item.{Item}
 use Rattle.thin_form.specs.declared.statement.Item.TheVariants.{Value, Text}
-use Rattle.thin_form.specs.declared.statement.Statement.{Statement}
-use Rattle.thin_form.specs.declared.statement.Statement.TheVariants.{Assign, Print, End}
-use Rattle.thin_form.specs.Programs.{IsPlain}
-use Rattle.rv_machine.specs.Memory.{Memory, read, write}
+use Rattle.rv_machine.specs.Memory.{Memory, read}
 use Rattle.rv_machine.specs.Machine.{bits_of, number_of}
-use Rattle.rv_code.proofs.Writes.{read_same, read_other}
 use Rattle.thin_code.specs.Layout.{main, offset_of, location_of}
-use Rattle.thin_code.specs.Meaning.{as_integer, value, joined, sum_from, printed, all_printed, record_of, perform}
+use Rattle.thin_code.specs.Meaning.{as_integer, value, joined, sum_from, printed, all_printed, record_of}
 use Rattle.thin_code.specs.Code.{Frame, address_of}
-use Rattle.thin_code.proofs.Effects.{word_of, joined_words, sum_of, memory_after, item_text, items_text, record_text, statement_text, IsPlaced, IsSoundTerm, IsSoundItem, IsSoundSum, IsSound}
+use Rattle.thin_code.proofs.Effects.{word_of, joined_words, sum_of, item_text, items_text, record_text, IsSoundTerm, IsSoundItem}
 
 -- a word of 64 bits and the integer that it stands for
 pub record Means (v : ℕ) (x : ℤ) : Type 0 where
@@ -45,14 +40,14 @@ means_joined Plus v w x y a b =
     let g : bits_of (number_of w) ≡ w = of_z-to_z w64 w b.small in
     record {
       small = omega arith;
-      is = ap (λ u. number_of ((v + u) % 2 ^ 64)) (sym g) ∙ e ∙ (λ i. int_wrap w64 (a.is i +ℤ b.is i))
+      is = ap (λ u. number_of ((v + u) % 2 ^ 64)) (sym g) ∙ e ∙ (λ i. int_wrap w64 (a.is i +ℤ b.is i));
     }
 means_joined Minus v w x y a b =
     let e = wrapping_sub_onto w64 v (number_of w) a.small (sfits_to_z {w = w64} {n = w} (Fits-of_lt {w = w64} {n = w} b.small)) in
     let g : bits_of (number_of w) ≡ w = of_z-to_z w64 w b.small in
     record {
       small = omega arith;
-      is = ap (λ u. number_of ((v + (2 ^ 64 - u)) % 2 ^ 64)) (sym g) ∙ e ∙ (λ i. int_wrap w64 (a.is i -ℤ b.is i))
+      is = ap (λ u. number_of ((v + (2 ^ 64 - u)) % 2 ^ 64)) (sym g) ∙ e ∙ (λ i. int_wrap w64 (a.is i -ℤ b.is i));
     }
 
 -- ---- values
@@ -79,13 +74,13 @@ sum_fares f w m v x [] h a i = gives x a refl
 sum_fares f w m v x (t ∷ more) h a i =
     let k : ℤ → Act ℤ = λ y. sum_from f.names (joined t.sign x y) more in
     subst (Fares w (sum_of f m (joined_words t.sign v (word_of f m t.term)) more)) (sym (play-and_then no_calls (value f.names t.term) k w))
-      (go (play no_calls (value f.names t.term) w) (value_fares f w m t.term h (i 0 t (omega arith)))
-        (λ y b. sum_fares f w m (joined_words t.sign v (word_of f m t.term)) (joined t.sign x y) more h (means_joined t.sign v (word_of f m t.term) x y a b) (λ k d l. i (suc k) d (omega arith))))
+    (go (play no_calls (value f.names t.term) w) (value_fares f w m t.term h (i 0 t (omega arith)))
+    (λ y b. sum_fares f w m (joined_words t.sign v (word_of f m t.term)) (joined t.sign x y) more h (means_joined t.sign v (word_of f m t.term) x y a b) (λ k d l. i (suc k) d (omega arith))))
   where
     go : (o : Outcome ℤ) → Fares w (word_of f m t.term) o → ((y : ℤ) → Means (word_of f m t.term) y → Fares w (sum_of f m (joined_words t.sign v (word_of f m t.term)) more) (play no_calls (sum_from f.names (joined t.sign x y) more) w))
-       → Fares w (sum_of f m (joined_words t.sign v (word_of f m t.term)) more) (then_do o (λ y u. play no_calls (sum_from f.names (joined t.sign x y) more) u))
+        → Fares w (sum_of f m (joined_words t.sign v (word_of f m t.term)) more) (then_do o (λ y u. play no_calls (sum_from f.names (joined t.sign x y) more) u))
     go o (gives y b e) ih = subst (λ o. Fares w (sum_of f m (joined_words t.sign v (word_of f m t.term)) more) (then_do o (λ y u. play no_calls (sum_from f.names (joined t.sign x y) more) u))) (sym e)
-      (ih y b)
+        (ih y b)
     go o (fails e) ih = fails (ap (λ o. then_do o (λ y u. play no_calls (sum_from f.names (joined t.sign x y) more) u)) e)
 
 -- ---- texts

@@ -1,11 +1,11 @@
 -- The code of a file stands in the machine's memory.
-use Rattle.std.proofs.Common.{◌≡◌, ℕ, zero, suc, ◌+◌, ◌-◌, ◌*◌, ◌/◌, ◌%◌, ◌^◌, ◌≤◌, ◌<◌, List, [], ◌∷◌, ◌++◌, length, Bool, true, cond, refl, sym, ap, ◌∙◌, subst, append_assoc, arith, lit<, length-append, get_or}
-use Rattle.std.specs.Prelude.{flat_map, nat_lt, slice_index}
+use Rattle.std.proofs.Common.{◌≡◌, ℕ, suc, ◌+◌, ◌-◌, ◌*◌, ◌/◌, ◌%◌, ◌^◌, ◌≤◌, ◌<◌, List, [], ◌∷◌, ◌++◌, length, true, cond, refl, sym, ap, ◌∙◌, subst, append_assoc, arith, lit<, length-append}
+use Rattle.std.specs.Prelude.{nat_lt, slice_index}
 use Rattle.std.proofs.lemmas.Bool.{lt-ltb}
 use Rattle.rv_isa.specs.declared.inst.Inst.{Inst}
-use Rattle.rv_isa.specs.Table.{InRange, encode_word}
+use Rattle.rv_isa.specs.Table.{encode_word}
 use Rattle.rv_isa.proofs.Round.{word-below}
-use Rattle.rv_machine.specs.Memory.{Memory, read}
+use Rattle.rv_machine.specs.Memory.{read}
 use Rattle.rv_machine.specs.Kept.{whole}
 use Rattle.rv_code.specs.Line.{HasAt, nil, more}
 use Rattle.elf_file.specs.Numbers.{le}
@@ -42,7 +42,7 @@ stand bytes at code before (i ∷ is) l e r =
     let rest = bytes_of is in
     let total : length code ≡ n + (4 + length rest) = ap length e ∙ length-append before (le 4 w ++ rest) ∙ omega arith in
     let byte : (k : ℕ) → k < 4 → (x : ℕ) → x ≡ 65536 + (n + k) → whole code bytes at x ≡ slice_index (le 4 w ++ rest) k =
-      λ k h x ex. code_byte code bytes at x (n + k) l ex (omega (arith, total, h)) ∙ ap (λ c. slice_index c (n + k)) e ∙ index_behind before (le 4 w ++ rest) k in
+    λ k h x ex. code_byte code bytes at x (n + k) l ex (omega (arith, total, h)) ∙ ap (λ c. slice_index c (n + k)) e ∙ index_behind before (le 4 w ++ rest) k in
     let b0 = byte 0 (lit< tt) (65536 + n) (omega arith) in
     let b1 = byte 1 (lit< tt) (65536 + n + 1) (omega arith) in
     let b2 = byte 2 (lit< tt) (65536 + n + 1 + 1) (omega arith) in
@@ -50,4 +50,4 @@ stand bytes at code before (i ∷ is) l e r =
     let word : read 4 (whole code bytes at) (65536 + n) ≡ w = (λ j. b0 j + 256 * (b1 j + 256 * (b2 j + 256 * (b3 j + 256 * 0)))) ∙ four_bytes w (word-below i r.0) in
     let z : 65536 + length (before ++ le 4 w) ≡ 65536 + n + 4 = ap (λ k. 65536 + k) (length-append before (le 4 w)) ∙ omega arith in
     more (omega arith) (omega (arith, total)) r.0 word
-      (subst (λ a. HasAt (whole code bytes at) (65536 + length code) a is) z (stand bytes at code (before ++ le 4 w) is l (e ∙ sym (append_assoc before (le 4 w) rest)) r.1))
+    (subst (λ a. HasAt (whole code bytes at) (65536 + length code) a is) z (stand bytes at code (before ++ le 4 w) is l (e ∙ sym (append_assoc before (le 4 w) rest)) r.1))

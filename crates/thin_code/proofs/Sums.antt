@@ -1,5 +1,5 @@
 -- The code of sums.
-use Rattle.std.proofs.Common.{◌≡◌, ℕ, suc, ◌+◌, ◌-◌, ◌*◌, ◌%◌, ◌^◌, ◌≤◌, ◌<◌, List, [], ◌∷◌, ◌++◌, length, refl, sym, ap, ◌∙◌, subst, arith, lit<, length-append}
+use Rattle.std.proofs.Common.{◌≡◌, ℕ, suc, ◌+◌, ◌*◌, ◌%◌, ◌^◌, ◌<◌, List, [], ◌∷◌, ◌++◌, length, refl, sym, ap, ◌∙◌, subst, arith, lit<, length-append}
 use Rattle.std.specs.List.{All}
 use Rattle.rv_isa.specs.declared.inst.Inst.{Inst}
 use Rattle.thin_form.specs.declared.statement.Term.{Term}
@@ -44,7 +44,7 @@ sums_then f rest more p n k m s v w e a b =
       goes = subst (λ m. Goes m s b.then []) e (goes_then a.goes b.goes);
       ready = subst (λ q. Ready f rest q b.then) z b.ready;
       mem = b.mem ∙ a.mem;
-      value = b.value
+      value = b.value;
     }
 
 adds : (f : Frame) (rest : List Inst) (p : ℕ) (s : State) (a : Addend) (x : ℕ) → s.regs 5 ≡ x → IsSoundTerm f a.term → Ready f (addend_code f p a ++ rest) p s → Sums f rest p (length (addend_code f p a)) s (joined_words a.sign x (word_of f s.mem a.term))

@@ -1,26 +1,23 @@
 -- The executable of a program agrees with it.
-use Rattle.std.proofs.Common.{◌≡◌, ◌≢◌, ℕ, zero, suc, ◌+◌, ◌-◌, ◌*◌, ◌≤◌, ◌<◌, ℤ, List, [], ◌∷◌, ◌++◌, length, take, refl, sym, ap, ◌∙◌, subst, append-nil, arith, length-append}
+use Rattle.std.proofs.Common.{◌≡◌, ℕ, zero, suc, ◌+◌, ◌-◌, ◌*◌, ◌≤◌, ◌<◌, ℤ, List, [], ◌∷◌, length, take, refl, sym, ap, ◌∙◌, subst, arith, length-append}
 use Rattle.std.specs.Prelude.{sum_by}
 use Rattle.std.proofs.lemmas.List.Sums.{sum_by-append, sum_by-take-le}
-use Rattle.run_model.specs.Acts.{World, Spent, Ended, Undefined, Outcome, Stop, Answer, no_calls}
+use Rattle.run_model.specs.Acts.{Outcome, Answer, no_calls}
 use Rattle.run_model.specs.Turns.{turns}
-use Rattle.run_model.specs.Runs.{Run, Going, Finished, UndefinedAt, answer}
+use Rattle.run_model.specs.Runs.{Going, Finished, UndefinedAt, answer}
 use Rattle.thin_form.specs.declared.statement.Statement.{Statement}
 use Rattle.thin_form.specs.declared.statement.Statement.TheVariants.{End}
 use Rattle.thin_form.specs.Programs.{size_of, IsProgram}
-use Rattle.rv_machine.specs.declared.outcome.Outcome.TheVariants.{Running, Halted, Trap}
-use Rattle.rv_machine.specs.declared.outcome.TrapCause.{TrapCause}
-use Rattle.rv_machine.specs.Machine.{State, run, output}
-use Rattle.rv_machine.specs.Start.{Loads}
-use Rattle.thin_code.specs.Meaning.{Source, fresh}
+use Rattle.rv_machine.specs.declared.outcome.Outcome.TheVariants.{Running, Halted}
+use Rattle.rv_machine.specs.Machine.{State}
+use Rattle.thin_code.specs.Meaning.{fresh}
 use Rattle.thin_code.specs.Sizes.{weight_of, steps_each, words_each}
-use Rattle.thin_code.specs.Code.{Frame, frame_of, file_of}
-use Rattle.thin_code.specs.Agreement.{Reaches, Ends, HasEnded, IsUndefined, Agrees, EndsWithin}
-use Rattle.thin_code.proofs.Bodies.{text_of}
+use Rattle.thin_code.specs.Code.{frame_of, file_of}
+use Rattle.thin_code.specs.Agreement.{Reaches, Ends, HasEnded, Agrees, EndsWithin}
 use Rattle.thin_code.proofs.Orderly.{nothing_holds}
 use Rattle.thin_code.proofs.Stepped.{Comes, going, ended, undefined, comes, turn_of}
 use Rattle.thin_code.proofs.Counts.{body_words, body_weight, body_size}
-use Rattle.thin_code.proofs.Agreeing.{Begun, Done, done, Over, over, never_traps, stays_halted}
+use Rattle.thin_code.proofs.Agreeing.{Begun, done, over, never_traps, stays_halted}
 use Rattle.thin_code.proofs.Filed.{shaped, begun}
 
 -- what n steps of the program come to
@@ -80,7 +77,7 @@ module _ (body : List Statement) (p : IsProgram body) (input : List ℤ) (s : St
         enough = few_steps body p n (2 + body_words (take n p.front)) l;
         within = within_reach body p n;
         runs = ap (λ t. t.outcome) d.goes.stands ∙ d.ready.runs.runs;
-        prints = d.goes.prints ∙ sym t ∙ text
+        prints = d.goes.prints ∙ sym t ∙ text;
       }
     where
       going_out : (x y : List ℕ) → Going x ≡ Going y → x ≡ y
@@ -99,7 +96,7 @@ module _ (body : List Statement) (p : IsProgram body) (input : List ℤ) (s : St
         count = 5 + body_words p.front;
         within = within_end body p n (omega (arith, l));
         halts = h.halts ∙ ap Halted zero_is;
-        prints = h.prints ∙ sym t ∙ text
+        prints = h.prints ∙ sym t ∙ text;
       }
   ends n status out o (undefined c v e) a = let z : UndefinedAt (n - v.left) c v.out ≡ Finished status out = ap (answer n) (sym e) ∙ a in absurd (cc)
 
@@ -110,13 +107,13 @@ module _ (body : List Statement) (p : IsProgram body) (input : List ℤ) (s : St
 
 pub agrees : (body : List Statement) → IsProgram body → Agrees body (file_of body)
 agrees body p = record {
-    shaped = λ none. none _ _ _ (shaped body p);
-    going = λ input s h n out e. let b = begun body p input s h in reaches body p input s b n out _ (source body p input s b n) e;
-    ended = λ input s h n status out e. let b = begun body p input s h in ends body p input s b n status out _ (source body p input s b n) e;
-    halted = λ input s h m status e. let b = begun body p input s h in
+  shaped = λ none. none _ _ _ (shaped body p);
+  going = λ input s h n out e. let b = begun body p input s h in reaches body p input s b n out _ (source body p input s b n) e;
+  ended = λ input s h n status out e. let b = begun body p input s h in ends body p input s b n status out _ (source body p input s b n) e;
+  halted = λ input s h m status e. let b = begun body p input s h in
       has_ended body p input s b ((m + 1) * steps_each body) _ (enough_steps body p m) (source body p input s b ((m + 1) * steps_each body));
-    trapped = λ input s h m pc cause e. absurd (never_traps s m (5 + body_words p.front) pc cause (over (frame_of body) p.front s (begun body p input s h)).halts e)
-  }
+  trapped = λ input s h m pc cause e. absurd (never_traps s m (5 + body_words p.front) pc cause (over (frame_of body) p.front s (begun body p input s h)).halts e);
+}
 
 pub bounded : (body : List Statement) → IsProgram body → EndsWithin (file_of body) (64 + 32 * sum_by size_of body)
 bounded body p input s h m l r =

@@ -1,5 +1,5 @@
 -- When an executable does what a program means.
-use Rattle.std.specs.Prelude.{◌≡◌, ◌≢◌, ℕ, ◌+◌, ◌*◌, ◌≤◌, List, ℤ, sum_by, ◌⊎◌}
+use Rattle.std.specs.Prelude.{◌≡◌, ◌≢◌, ℕ, ◌+◌, ◌*◌, ◌≤◌, List, ℤ}
 use Rattle.run_model.specs.Runs.{Run, Going, Finished, UndefinedAt, Wrong}
 use Rattle.rv_machine.specs.declared.outcome.Outcome.TheVariants.{Running, Halted, Trap}
 use Rattle.rv_machine.specs.declared.outcome.TrapCause.{TrapCause}
@@ -7,7 +7,6 @@ use Rattle.rv_machine.specs.Machine.{State, run, output}
 use Rattle.rv_machine.specs.Start.{Loads}
 use Rattle.elf_file.specs.Shape.{NoShape}
 use Rattle.thin_form.specs.declared.statement.Statement.{Statement}
-use Rattle.thin_form.specs.Programs.{size_of}
 use Rattle.thin_code.specs.Meaning.{Source}
 use Rattle.thin_code.specs.Sizes.{steps_each, words_each}
 

@@ -1,5 +1,5 @@
 -- The code of a thin program.
-use Rattle.std.specs.Prelude.{◌≡◌, ℕ, zero, ◌+◌, ◌-◌, ◌*◌, ◌/◌, ◌%◌, ◌^◌, List, [], ◌∷◌, ◌++◌, length, pos, flat_map}
+use Rattle.std.specs.Prelude.{◌≡◌, ℕ, ◌+◌, ◌*◌, List, [], ◌∷◌, ◌++◌, length, flat_map}
 use Rattle.run_model.specs.Storage.{Name}
 use Rattle.thin_form.specs.declared.statement.Term.{Term}
 use Rattle.thin_form.specs.declared.statement.Term.TheVariants.{Variable, Integer}

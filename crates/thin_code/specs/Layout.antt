@@ -1,10 +1,9 @@
 -- The storage of a thin program: the local area of the main program.
 use Rattle.std.specs.Prelude.{ℕ, List, [], ◌∷◌, ◌++◌, fold, flat_map, if◌then◌else◌, codes}
 use Rattle.std.specs.List.{list_any, position_or_len}
-use Rattle.run_model.specs.Storage.{Name, name_eq, Area, Local, Loc}
+use Rattle.run_model.specs.Storage.{Name, name_eq, Local, Loc}
 use Rattle.thin_form.specs.declared.statement.Term.{Term}
 use Rattle.thin_form.specs.declared.statement.Term.TheVariants.{Variable, Integer}
-use Rattle.thin_form.specs.declared.statement.Addend.{Addend}
 use Rattle.thin_form.specs.declared.statement.Item.{Item}
 use Rattle.thin_form.specs.declared.statement.Item.TheVariants.{Value, Text}
 use Rattle.thin_form.specs.declared.statement.Statement.{Statement}

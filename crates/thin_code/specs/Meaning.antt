@@ -1,5 +1,5 @@
 -- What a thin program does: its statements one after another, each of which is a step.
-use Rattle.std.specs.Prelude.{ℕ, suc, List, [], ◌∷◌, ◌++◌, Option, Some, None, ℤ, ◌+ℤ◌, ◌-ℤ◌, slice_get, map}
+use Rattle.std.specs.Prelude.{ℕ, suc, List, [], ◌∷◌, ◌++◌, Option, Some, None, ℤ, ◌+ℤ◌, ◌-ℤ◌, slice_get}
 use Rattle.std.specs.Int.{w64, int_wrap}
 use Rattle.std.specs.Fmt.{signed_decimal}
 use Rattle.run_model.specs.Storage.{Name, Value as Stored, Integer as Number, Logical, Loc}

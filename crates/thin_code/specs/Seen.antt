@@ -1,5 +1,5 @@
 -- The frame that an area stands for.
-use Rattle.std.specs.Prelude.{ℕ, ◌+◌, ◌*◌}
+use Rattle.std.specs.Prelude.{ℕ}
 use Rattle.run_model.specs.Storage.{Name}
 use Rattle.thin_code.specs.declared.area.Area.{Area}
 use Rattle.thin_code.specs.Code.{Frame, address_of}

@@ -1,6 +1,5 @@
 -- The two numbers that a program's text fixes for its executable.
 use Rattle.std.specs.Prelude.{ℕ, ◌+◌, ◌*◌, List, length, sum_by}
-use Rattle.thin_form.specs.declared.statement.Term.{Term}
 use Rattle.thin_form.specs.declared.statement.Item.{Item}
 use Rattle.thin_form.specs.declared.statement.Item.TheVariants.{Value, Text}
 use Rattle.thin_form.specs.declared.statement.Statement.{Statement}

@@ -57,11 +57,7 @@ fn add_statement(
     }
 }
 
-fn add_addends(
-    alloc: Global,
-    names: &mut IndexSet<Name>,
-    more: &[Addend],
-) -> Result<(), AllocError>
+fn add_addends(alloc: Global, names: &mut IndexSet<Name>, more: &[Addend]) -> Result<(), AllocError>
     ensures { OnOk result (names.new.keys ≡ fold with_name names.old.keys (flat_map (λ a. term_names a.term) more.now)) }
 {
     for addend in more {

@@ -30,7 +30,11 @@ fn upper(value: u64) -> i32
     ensures { result ≡ line.upper value }
 {
     let bits = ((value / 4096 + (value % 4096 + 2048) / 4096) % (1 << 20)) as i32;
-    if bits < 1 << 19 { bits } else { bits - (1 << 20) }
+    if bits < 1 << 19 {
+        bits
+    } else {
+        bits - (1 << 20)
+    }
 }
 
 // The low 12 bits as a signed number.

@@ -17,11 +17,7 @@ use thin_form::{Addend, Item, Statement, Term};
 const MAIN: u64 = 65544;
 
 /// The code of a program: a call pair to the main program, and the main program.
-pub fn program_code(
-    alloc: Global,
-    area: &Area,
-    body: &[Statement],
-) -> Result<Vec<u8>, AllocError>
+pub fn program_code(alloc: Global, area: &Area, body: &[Statement]) -> Result<Vec<u8>, AllocError>
     ensures { IfOk result (λ code. code.items ≡ bytes_of (program_code (frame_in area.now) body.now)) }
 {
     let mut code = Vec::new(alloc);
@@ -39,11 +35,7 @@ fn push_body(code: &mut Vec<u8>, area: &Area, body: &[Statement]) -> Result<(), 
     Ok(())
 }
 
-fn push_statement(
-    code: &mut Vec<u8>,
-    area: &Area,
-    statement: &Statement,
-) -> Result<(), AllocError>
+fn push_statement(code: &mut Vec<u8>, area: &Area, statement: &Statement) -> Result<(), AllocError>
     ensures { OnOk result (Emits code.old.items code.new.items (λ from. statement_code (frame_in area.now) from statement.now)) }
 {
     match statement {
@@ -95,12 +87,7 @@ fn push_addend(code: &mut Vec<u8>, area: &Area, addend: &Addend) -> Result<(), A
     push_operation(code, addend.sign)
 }
 
-fn push_term(
-    code: &mut Vec<u8>,
-    area: &Area,
-    register: u8,
-    term: &Term,
-) -> Result<(), AllocError>
+fn push_term(code: &mut Vec<u8>, area: &Area, register: u8, term: &Term) -> Result<(), AllocError>
     requires { register < 32 }
     ensures { OnOk result (Emits code.old.items code.new.items (λ from. term_code (frame_in area.now) register from term.now)) }
 {

@@ -1,5 +1,5 @@
 -- Thin programs as lists of statements.
-use Rattle.std.specs.Prelude.{◌≡◌, ◌^◌, ℕ, ◌+◌, ◌*◌, ◌≤◌, ◌<◌, pos, ◌≤ℤ◌, List, [], ◌∷◌, ◌++◌, length, sum_by}
+use Rattle.std.specs.Prelude.{◌≡◌, ◌^◌, ℕ, ◌+◌, ◌*◌, ◌≤◌, ◌<◌, pos, List, [], ◌∷◌, ◌++◌, length, sum_by}
 use Rattle.std.specs.List.{All}
 use Rattle.thin_form.specs.declared.statement.Term.{Term}
 use Rattle.thin_form.specs.declared.statement.Term.TheVariants.{Variable, Integer}

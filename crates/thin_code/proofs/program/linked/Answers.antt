@@ -1,9 +1,8 @@
-use Rattle.std.proofs.Common.{◌≡◌, ℕ, List, [], ◌+◌, ◌*◌, ◌%◌, ◌∙◌, sym, ap, length, arith}
+use Rattle.std.proofs.Common.{◌≡◌, ◌∙◌, ap, length, arith}
 use Rattle.elf_file.specs.Shape.{data_at}
 use Rattle.thin_code.specs.Layout.{names_of}
 use Rattle.thin_code.specs.Code.{file_of}
 use Rattle.thin_code.proofs.Given.{if_ok}
-use Rattle.thin_code.proofs.Counts.{body_words}
 use Rattle.thin_code.proofs.Filed.{small, framed, measured_length, code_is, file_is}
 use Rattle.thin_code.proofs.program.linked.Goals as goal
 

@@ -1,4 +1,4 @@
-use Rattle.std.proofs.Common.{◌≡◌, sym, subst, ◌+◌, ◌*◌}
+use Rattle.std.proofs.Common.{sym, subst, ◌+◌, ◌*◌}
 use Rattle.std.specs.Prelude.{sum_by}
 use Rattle.thin_form.specs.Programs.{size_of}
 use Rattle.thin_code.specs.Agreement.{Agrees, EndsWithin}

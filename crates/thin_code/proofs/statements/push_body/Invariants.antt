@@ -1,6 +1,5 @@
-use Rattle.std.proofs.Common.{ℕ, List, drop, flat_map}
-use Rattle.rv_code.specs.Pieces.{byte_code}
-use Rattle.thin_code.specs.Code.{Emits, addends_code, items_code, body_code}
+use Rattle.std.proofs.Common.{ℕ, List, drop}
+use Rattle.thin_code.specs.Code.{Emits, body_code}
 use Rattle.thin_code.specs.Seen.{frame_in}
 use Rattle.thin_code.proofs.statements.push_body.Given as goal
 

@@ -1,7 +1,5 @@
 use Rattle.std.proofs.Common.{refl}
-use Rattle.std.specs.Prelude.{flat_map}
-use Rattle.rv_code.specs.Pieces.{byte_code}
-use Rattle.thin_code.specs.Code.{addend_code, addends_code, item_code, items_code, statement_code, body_code}
+use Rattle.thin_code.specs.Code.{item_code, items_code}
 use Rattle.thin_code.specs.Seen.{frame_in}
 use Rattle.thin_code.proofs.Emitted.{emits_more, emits_all, from_element}
 use Rattle.thin_code.proofs.statements.push_items.Goals as goal
