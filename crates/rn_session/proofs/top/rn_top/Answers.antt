@@ -1,0 +1,80 @@
+use Rattle.std.proofs.Common.{ℕ, List, Err, refl, sym, ap, ◌∙◌, subst}
+use Rattle.fixed_form.specs.Lines.{lines_of}
+use Rattle.fixed_form.specs.declared.fault.Refused.{Refused}
+use Rattle.thin_form.specs.Texts.{Explains}
+use Rattle.rn_ports.specs.Causes.{Rose}
+use Rattle.rv_machine.specs.Machine.{run}
+use Rattle.rv_machine.specs.Kept.{state_of}
+use Rattle.rn_session.specs.Replies.{fault_reply, run_reply}
+use Rattle.rn_session.specs.Answers.{StartsOn, too_long, faulty, ran}
+use Rattle.rn_session.proofs.Replied.{fault_answered, fault_complete, run_answered, run_complete, own_or_fault, run_noted, source_said}
+use Rattle.rn_session.proofs.Told.{told}
+use Rattle.rn_session.proofs.top.rn_top.Goals as goal
+
+-- ---- an input above the limit
+
+pub returns-in-Err-TooLong-clause-answer : goal.returns-in-Err-TooLong-clause-answer
+returns-in-Err-TooLong-clause-answer g c =
+    let e = c.refuse_source.ensures in
+    let long = (c.in-Err-TooLong.ensures {u = tt}).long (ap Err c.in-Err-TooLong.field-0-is) in
+    fault_answered c.in-Some.steps c.long_fault.result (sym c.steps.ensures ∙ c.in-Some.is) (too_long long (ap fault_reply c.long_fault.ensures)) e.status e.front e.text
+
+pub returns-in-Err-TooLong-clause-complete : goal.returns-in-Err-TooLong-clause-complete
+returns-in-Err-TooLong-clause-complete g c =
+    let e = c.refuse_source.ensures in
+    let long = (c.in-Err-TooLong.ensures {u = tt}).long (ap Err c.in-Err-TooLong.field-0-is) in
+    λ read written. fault_complete c.args.words.now c.refuse_source.result c.in-Some.steps c.long_fault.result (sym c.steps.ensures ∙ c.in-Some.is) (too_long long (ap fault_reply c.long_fault.ensures)) e.status
+
+-- ---- a text that isn't thin
+
+pub returns-in-Err-Fault-clause-answer : goal.returns-in-Err-Fault-clause-answer
+returns-in-Err-Fault-clause-answer g c =
+    let e = c.refuse_source-in-Err-Fault.ensures in
+    let read = c.in-Ok.ensures {u = tt} in
+    let thin = subst (λ (t : List ℕ). Explains c.in-Err-Fault.field-0 (lines_of t)) c.as_slice.ensures.value (c.in-Err-Fault.ensures {u = tt}).refused in
+    let fault = subst (λ (r : Refused). Explains r (lines_of c.in-Ok.text.items)) c.in-Err-Fault.field-0-is thin in
+    fault_answered c.in-Some.steps c.in-Err-Fault.fault (sym c.steps.ensures ∙ c.in-Some.is) (faulty c.in-Ok.text.items read.all read.within c.in-Err-Fault.fault fault refl) e.status e.front e.text
+
+pub returns-in-Err-Fault-clause-complete : goal.returns-in-Err-Fault-clause-complete
+returns-in-Err-Fault-clause-complete g c =
+    let e = c.refuse_source-in-Err-Fault.ensures in
+    let read = c.in-Ok.ensures {u = tt} in
+    let thin = subst (λ (t : List ℕ). Explains c.in-Err-Fault.field-0 (lines_of t)) c.as_slice.ensures.value (c.in-Err-Fault.ensures {u = tt}).refused in
+    let fault = subst (λ (r : Refused). Explains r (lines_of c.in-Ok.text.items)) c.in-Err-Fault.field-0-is thin in
+    λ sourced written. fault_complete c.args.words.now c.refuse_source-in-Err-Fault.result c.in-Some.steps c.in-Err-Fault.fault (sym c.steps.ensures ∙ c.in-Some.is)
+    (faulty c.in-Ok.text.items read.all read.within c.in-Err-Fault.fault fault refl) e.status
+
+-- ---- a run
+
+pub returns-in-Ok-machine_of-clause-answer : goal.returns-in-Ok-machine_of-clause-answer
+returns-in-Ok-machine_of-clause-answer g c =
+    let e = c.run_machine.ensures in
+    let read = c.in-Ok.ensures {u = tt} in
+    let s = state_of c.in-Ok-machine_of.machine in
+    let started = subst (λ (t : List ℕ). StartsOn t s) c.as_slice.ensures.value (c.in-Ok-machine_of.ensures {u = tt}).starts in
+    run_answered c.in-Some.steps s (sym c.steps.ensures ∙ c.in-Some.is) (ran c.in-Ok.text.items read.all read.within (record { start = s; starts = started; replied = refl })) e.status e.front e.text
+
+pub returns-in-Ok-machine_of-clause-complete : goal.returns-in-Ok-machine_of-clause-complete
+returns-in-Ok-machine_of-clause-complete g c =
+    let e = c.run_machine.ensures in
+    let read = c.in-Ok.ensures {u = tt} in
+    let s = state_of c.in-Ok-machine_of.machine in
+    let started = subst (λ (t : List ℕ). StartsOn t s) c.as_slice.ensures.value (c.in-Ok-machine_of.ensures {u = tt}).starts in
+    λ sourced written. run_complete c.args.words.now c.run_machine.result (Rose (g.O.Sink.faults c.args.out.now) (g.O.Sink.faults c.run_machine.new.out)) c.in-Some.steps s (sym c.steps.ensures ∙ c.in-Some.is)
+    (ran c.in-Ok.text.items read.all read.within (record { start = s; starts = started; replied = refl })) e.status e.write.rose written
+
+pub returns-in-Ok-machine_of-clause-source : goal.returns-in-Ok-machine_of-clause-source
+returns-in-Ok-machine_of-clause-source g c =
+    let e = c.run_machine.ensures in
+    let read = c.in-Ok.ensures {u = tt} in
+    let s = state_of c.in-Ok-machine_of.machine in
+    let started = subst (λ (t : List ℕ). StartsOn t s) c.as_slice.ensures.value (c.in-Ok-machine_of.ensures {u = tt}).starts in
+    source_said c.args.words.now (g.I.Source.left c.args.input.now) c.in-Ok.text.items c.run_machine.result (g.O.Sink.written c.args.out.now) (g.O.Sink.written c.run_machine.new.out) c.in-Some.steps
+    (sym c.steps.ensures ∙ c.in-Some.is) read.all
+    (told c.in-Ok.text.items s started c.in-Some.steps c.run_machine.result (g.O.Sink.written c.args.out.now) (g.O.Sink.written c.run_machine.new.out) e.status e.done e.sent)
+
+pub returns-in-Ok-machine_of-clause-noted : goal.returns-in-Ok-machine_of-clause-noted
+returns-in-Ok-machine_of-clause-noted g c =
+    let s = state_of c.in-Ok-machine_of.machine in
+    run_noted (run c.in-Some.steps s).outcome c.run_machine.result (g.T.Tally.notes c.args.tally.now) (g.T.Tally.notes c.machine_of.new.tally)
+    (own_or_fault (run_reply c.in-Some.steps s) c.run_machine.result c.run_machine.ensures.status) (c.in-Ok-machine_of.ensures {u = tt}).noted

@@ -1,0 +1,95 @@
+-- What `one STEPS` answers, and what the sink and the tally get.
+use Rattle.std.specs.Prelude.{◌≡◌, ℕ, ℤ, ◌+◌, ◌*◌, ◌≤◌, ◌<◌, List, [], ◌∷◌, ◌++◌, length, None, Some, ◌⊎◌, IsNone, IfSome, codes}
+use Rattle.std.specs.Io.KnownBytes.{Appends}
+use Rattle.std.specs.declared.option.Option.{Option}
+use Rattle.rn_ports.specs.Sent.{AppendsPart}
+use Rattle.rn_ports.specs.declared.ports.Kind.{Kind}
+use Rattle.rn_ports.specs.declared.ports.Kind.TheVariants.{Compile}
+use Rattle.fixed_form.specs.declared.fault.SourceFault.{SourceFault}
+use Rattle.fixed_form.specs.declared.fault.Refused.{Refused}
+use Rattle.fixed_form.specs.declared.fault.Refused.TheVariants.{Fault, OutOfMemory as Starved}
+use Rattle.fixed_form.specs.Lines.{lines_of}
+use Rattle.thin_form.specs.declared.statement.Statement.{Statement}
+use Rattle.thin_form.specs.Texts.{IsThin, IsThinFault, text_bytes}
+use Rattle.thin_code.specs.Meaning.{Source}
+use Rattle.thin_code.specs.Agreement.{Agrees, EndsWithin, IsOrderly}
+use Rattle.rv_machine.specs.Start.{Loads}
+use Rattle.rv_machine.specs.Machine.{State}
+use Rattle.rn_session.specs.declared.status.Status.{Status}
+use Rattle.rn_session.specs.declared.status.Status.TheVariants.{Ok as Done, BadWords, ReadFault, WriteFault, OutOfMemory, StepsSpent, Trapped}
+use Rattle.rn_session.specs.Words.{steps_of}
+use Rattle.rn_session.specs.Replies.{Reply, run_reply, fault_reply, MayEnd}
+
+-- A file that agrees with the thin program that a text is. Its machine ends within 64 instructions and 32 for each byte of the
+-- statement texts; the program itself ends with status 0 or never.
+pub record IsFileOf (bytes file : List ℕ) : Type 0 where
+  pub body : List Statement
+  pub thin : IsThin (lines_of bytes) body
+  pub orderly : (input : List ℤ) (n : ℕ) → IsOrderly (Source body input n)
+  pub agrees : Agrees body file
+  pub bound : EndsWithin file (64 + 32 * text_bytes (lines_of bytes))
+
+-- the greatest number of bytes of an input
+abbrev pub input_limit : ℕ
+input_limit = 67108864
+
+-- the fault of an input above the limit
+abbrev pub long_fault : ℕ → SourceFault
+long_fault limit = record { number = 37; place = record { unit = None; line = 0 }; limit = limit }
+
+-- the machine stands at the start of a file of the text
+pub record StartsOn (bytes : List ℕ) (s : State) : Type 0 where
+  pub file : List ℕ
+  pub made : IsFileOf bytes file
+  pub loads : Loads file [] s
+
+-- the reply of a machine that was started on a file of the text and took so many steps
+pub record IsRunOf (steps : ℕ) (bytes : List ℕ) (reply : Reply) : Type 0 where
+  pub start : State
+  pub starts : StartsOn bytes start
+  pub replied : reply ≡ run_reply steps start
+
+-- What `one STEPS` may reply to an input: the fault of a long one, that of a text that isn't thin, or the run of a file.
+pub data MayReply (limit steps : ℕ) (left : Option (List ℕ)) (reply : Reply) : Type 0 where
+  too_long : IfSome left (λ bytes. limit < length bytes) → reply ≡ fault_reply (long_fault limit) → MayReply limit steps left reply
+  faulty : (bytes : List ℕ) → IfSome left (λ known. bytes ≡ known) → length bytes ≤ limit →
+      (fault : SourceFault) → IsThinFault fault (lines_of bytes) → reply ≡ fault_reply fault → MayReply limit steps left reply
+  ran : (bytes : List ℕ) → IfSome left (λ known. bytes ≡ known) → length bytes ≤ limit → IsRunOf steps bytes reply → MayReply limit steps left reply
+
+-- What `one STEPS` may answer to these words and this input, and the text of that answer.
+pub data MayAnswer (limit : ℕ) (words : List (List ℕ)) (left : Option (List ℕ)) (status : Status) (text : List ℕ) : Type 0 where
+  bad_words : IsNone (steps_of words) → status ≡ BadWords → text ≡ codes "bad words\n" → MayAnswer limit words left status text
+  read_fault : status ≡ ReadFault → text ≡ codes "read fault\n" → MayAnswer limit words left status text
+  out_of_memory : status ≡ OutOfMemory → text ≡ codes "out of memory\n" → MayAnswer limit words left status text
+  replied : (steps : ℕ) (reply : Reply) → steps_of words ≡ Some steps → MayReply limit steps left reply → MayEnd reply status →
+      text ≡ reply.output ++ reply.line → MayAnswer limit words left status text
+
+-- The sink got the text of the answer, or a front of it where its count of faults rose.
+pub record Answered (limit : ℕ) (words : List (List ℕ)) (left : Option (List ℕ)) (status : Status) (old new : Option (List ℕ)) (rose : Type 0) : Type 0 where
+  pub text : List ℕ
+  pub may : MayAnswer limit words left status text
+  pub front : AppendsPart old new text
+  pub whole : ¬ rose → Appends old new text
+
+-- Without a fault of a port the answer is the reply's own, or want of memory.
+pub data IsComplete (limit steps : ℕ) (left : Option (List ℕ)) (status : Status) : Type 0 where
+  without_memory : status ≡ OutOfMemory → IsComplete limit steps left status
+  with_reply : (reply : Reply) → MayReply limit steps left reply → status ≡ reply.status → IsComplete limit steps left status
+
+-- the note that the main program was compiled
+abbrev pub compiled : List (Kind × List ℕ)
+compiled = (Compile, codes "MAIN") ∷ []
+
+-- a text with a fault is not compiled, and memory may run out before or after
+abbrev pub NotedAt : Refused → (old new : List (Kind × List ℕ)) → Type 0
+NotedAt (Fault fault) old new = new ≡ old
+NotedAt Starved old new = (new ≡ old) ⊎ (new ≡ old ++ compiled)
+
+-- One Compile of MAIN is noted where a file was made, and nothing else.
+abbrev pub Noted : Status → (old new : List (Kind × List ℕ)) → Type 0
+Noted Done old new = new ≡ old ++ compiled
+Noted StepsSpent old new = new ≡ old ++ compiled
+Noted (Trapped pc cause) old new = new ≡ old ++ compiled
+Noted WriteFault old new = new ≡ old ++ compiled
+Noted OutOfMemory old new = (new ≡ old) ⊎ (new ≡ old ++ compiled)
+Noted status old new = new ≡ old

@@ -1,0 +1,60 @@
+-- What the status of `one STEPS` says of the source.
+use Rattle.std.specs.Prelude.{◌≡◌, ℕ, ◌+◌, ◌*◌, ◌<◌, List, [], ◌++◌, codes, decimal}
+use Rattle.std.specs.Io.KnownBytes.{Appends}
+use Rattle.std.specs.declared.option.Option.{Option}
+use Rattle.fixed_form.specs.Lines.{lines_of}
+use Rattle.thin_form.specs.declared.statement.Statement.{Statement}
+use Rattle.thin_form.specs.Texts.{IsThin, text_bytes}
+use Rattle.run_model.specs.Runs.{Finished, Begins, text_of}
+use Rattle.thin_code.specs.Meaning.{Source}
+use Rattle.thin_code.specs.Sizes.{steps_each, words_each}
+use Rattle.thin_code.specs.Agreement.{IsUndefined}
+use Rattle.rn_session.specs.declared.status.Status.{Status}
+use Rattle.rn_session.specs.declared.status.Status.TheVariants.{Ok as Done, StepsSpent, Trapped}
+use Rattle.rn_session.specs.Replies.{behind}
+
+-- The program meets no undefined action, whatever number of steps it is given.
+abbrev pub IsDefined : List Statement → Type 0
+IsDefined body = (n : ℕ) → IsUndefined (Source body [] n) → ⊥
+
+-- The program ends with this status and this output.
+pub record Finishes (body : List Statement) (status : ℕ) (out : List ℕ) : Type 0 where
+  pub steps : ℕ
+  pub ends : Source body [] steps ≡ Finished status out
+
+-- The sink got an output and `ended K`. Where the program is defined that is its whole output, and K is 0, its status.
+pub record RanToTheEnd (bytes : List ℕ) (old new : Option (List ℕ)) : Type 0 where
+  pub body : List Statement
+  pub thin : IsThin (lines_of bytes) body
+  pub status : ℕ
+  pub out : List ℕ
+  pub wrote : Appends old new (out ++ behind out (codes "ended " ++ decimal status ++ codes "\n"))
+  pub whole : IsDefined body → Finishes body status out
+  pub zero : IsDefined body → status ≡ 0
+
+-- The sink got an output, and what follows it as far as it took that. Where the program is defined the output is a beginning of
+-- what it prints in (STEPS + 1) * L steps. STEPS is below the number of instructions by which every program of this length has ended,
+-- and below n * W + 2 where this one ends at step n.
+pub record RanOutOfSteps (steps : ℕ) (bytes : List ℕ) (old new : Option (List ℕ)) : Type 0 where
+  pub body : List Statement
+  pub thin : IsThin (lines_of bytes) body
+  pub out : List ℕ
+  pub more : List ℕ
+  pub wrote : Appends old new (out ++ more)
+  pub begins : IsDefined body → Begins out (text_of (Source body [] ((steps + 1) * steps_each body)))
+  pub few : steps < 64 + 32 * text_bytes (lines_of bytes)
+  pub late : (n status : ℕ) (ended : List ℕ) → Source body [] n ≡ Finished status ended → steps < n * words_each body + 2
+
+-- The program meets an undefined action.
+pub record RanIntoATrap (bytes : List ℕ) : Type 0 where
+  pub body : List Statement
+  pub thin : IsThin (lines_of bytes) body
+  pub steps : ℕ
+  pub undefined : IsUndefined (Source body [] steps)
+
+-- What a status says of the program, where it says something.
+abbrev pub SaysOfSource : Status → (steps : ℕ) → (bytes : List ℕ) → (old new : Option (List ℕ)) → Type 0
+SaysOfSource Done steps bytes old new = RanToTheEnd bytes old new
+SaysOfSource StepsSpent steps bytes old new = RanOutOfSteps steps bytes old new
+SaysOfSource (Trapped pc cause) steps bytes old new = RanIntoATrap bytes
+SaysOfSource status steps bytes old new = Unit {0}

@@ -1,0 +1,17 @@
+//! The top call: words, the command that they ask for, its reply and its status.
+#![tactic(auto)]
+
+mod fault;
+mod lines;
+mod making;
+mod running;
+mod status;
+mod top;
+mod words;
+
+pub use making::thin_file;
+pub use status::Status;
+pub use top::{LIMIT, rn_top};
+
+#[cfg(test)]
+mod tests;

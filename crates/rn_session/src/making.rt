@@ -1,0 +1,66 @@
+//! From a text to a machine at the start of its file.
+ghost use Rattle.std.specs.Prelude.{◌≡◌, ℕ, ◌++◌, [], IfOk, IfErr, OnOk, OnErr};
+ghost use Rattle.fixed_form.specs.Lines.{lines_of};
+ghost use Rattle.thin_form.specs.Texts.{Explains};
+ghost use Rattle.elf_file.specs.Shape.{NoShape};
+ghost use Rattle.rv_machine.specs.Start.{Loads};
+ghost use Rattle.rv_machine.specs.Kept.{state_of};
+ghost use Rattle.rn_session.specs.Answers.{IsFileOf, StartsOn, NotedAt, compiled};
+
+use fixed_form::Refused;
+use rn_ports::{Kind, Tally};
+use rv_machine::{ElfRefused, Machine};
+use std::alloc::{AllocError, Global};
+use thin_code::program_file;
+use thin_form::read_thin;
+
+/// The bytes of an ELF file that does what the thin program does that the text is. One Compile of MAIN is noted where
+/// the file was made, and nothing else.
+pub fn thin_file<T: Tally>(alloc: Global, text: &[u8], tally: &mut T) -> Result<Vec<u8>, Refused>
+    ensures file { IfOk result (λ file. IsFileOf text.now file.items) }
+    // The fault is that of the first line that no thin text has.
+    ensures refused { IfErr result (λ refused. Explains refused (lines_of text.now)) }
+    ensures noted { OnOk result (T.notes tally.new ≡ T.notes tally.old ++ compiled) }
+    ensures silent { OnErr result (T.notes tally.new ≡ T.notes tally.old) }
+{
+    let body = match read_thin(alloc, text) {
+        Ok(body) => body,
+        Err(refused) => return Err(refused),
+    };
+    let Ok(file) = program_file(alloc, body.as_slice()) else {
+        return Err(Refused::OutOfMemory);
+    };
+    match tally.note(alloc, Kind::Compile, b"MAIN") {
+        Ok(()) => Ok(file),
+        Err(_) => Err(Refused::OutOfMemory),
+    }
+}
+
+// The machine at the start of a file that is one.
+fn started(alloc: Global, file: &[u8]) -> Result<Machine, AllocError>
+    requires { NoShape file.now → ⊥ }
+    ensures { IfOk result (λ machine. Loads file.now [] (state_of machine)) }
+{
+    match Machine::load(alloc, file, Vec::new(alloc)) {
+        Ok(machine) => Ok(machine),
+        Err(ElfRefused::OutOfMemory) => Err(AllocError),
+        Err(ElfRefused::Malformed) => unreachable!(),
+    }
+}
+
+/// The machine at the start of the file of a text.
+pub fn machine_of<T: Tally>(alloc: Global, text: &[u8], tally: &mut T) -> Result<Machine, Refused>
+    ensures starts { IfOk result (λ machine. StartsOn text.now (state_of machine)) }
+    ensures refused { IfErr result (λ refused. Explains refused (lines_of text.now)) }
+    ensures noted { OnOk result (T.notes tally.new ≡ T.notes tally.old ++ compiled) }
+    ensures silent { IfErr result (λ refused. NotedAt refused (T.notes tally.old) (T.notes tally.new)) }
+{
+    let file = match thin_file(alloc, text, tally) {
+        Ok(file) => file,
+        Err(refused) => return Err(refused),
+    };
+    match started(alloc, file.as_slice()) {
+        Ok(machine) => Ok(machine),
+        Err(_) => Err(Refused::OutOfMemory),
+    }
+}

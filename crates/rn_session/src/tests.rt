@@ -1,0 +1,183 @@
+use super::*;
+use fixed_form::List;
+use rn_ports::{FreeGate, Kind, ListTally, MemKeeper, MemSink, MemSource};
+use std::test::Fail;
+
+// What a call came to: the number of its status, the text that was written, and the tally.
+#[derive(Drop)]
+struct Seen {
+    status: u8,
+    text: Vec<u8>,
+    tally: ListTally,
+}
+
+// A call over ports in memory, with the words of a command line and the numbers of the reads and writes that fail.
+fn call(
+    rt: HostRuntime,
+    line: &str,
+    input: Vec<u8>,
+    reads: &[u64],
+    writes: &[u64],
+) -> Result<Seen, Fail> {
+    let alloc = rt.alloc();
+    let mut words = Vec::new(alloc);
+    for word in line.split_whitespace() {
+        words.push(List::from_slice(alloc, word.as_bytes())?)?;
+    }
+    let mut source = MemSource::new(input, Vec::from_slice(alloc, reads)?);
+    let mut sink = MemSink::new(alloc, 200, Vec::from_slice(alloc, writes)?)?;
+    let mut keep = MemKeeper::new(alloc, &[], 0, Vec::new(alloc), Vec::new(alloc))?;
+    let mut tally = ListTally::new(alloc)?;
+    let status = rn_top(
+        alloc,
+        words.as_slice(),
+        &mut source,
+        &mut sink,
+        &mut keep,
+        &FreeGate,
+        &mut tally,
+    );
+    Ok(Seen {
+        status: status.number(),
+        text: Vec::from_slice(alloc, sink.bytes())?,
+        tally,
+    })
+}
+
+const ONE: &str = "      PRINT *, 1\n      END\n";
+
+// The words, the input, the status and the text.
+#[test]
+fn replies(rt: HostRuntime) -> Result<(), Fail> {
+    let sum = "      I = 2\n      J = I + 40 - 5\n      PRINT *, 'J IS', J\n      END\n";
+    let branch = "      IF (I .EQ. 0) I = 1\n      END\n";
+    let table = [
+        ("one 1000", ONE, 0, " 1\nended 0\n"),
+        ("one 0001000", ONE, 0, " 1\nended 0\n"),
+        ("one 9223372036854775807", ONE, 0, " 1\nended 0\n"),
+        ("one 1000", sum, 0, " J IS 37\nended 0\n"),
+        ("one 1000", "      PRINT *\n      END\n", 0, " \nended 0\n"),
+        (
+            "one 1000",
+            "      PRINT *, 9223372036854775807, 0\n      END",
+            0,
+            " 9223372036854775807 0\nended 0\n",
+        ),
+        ("one 1000", "      END\n", 0, "ended 0\n"),
+        // A term has no sign.
+        (
+            "one 1000",
+            "      PRINT *, 9223372036854775807, 0, -5\n      END",
+            1,
+            "fault 7 MAIN line 1\n",
+        ),
+        ("one 1000", branch, 1, "fault 7 MAIN line 1\n"),
+        ("one 1000", "      I = 1\n", 1, "fault 7 MAIN line 2\n"),
+        ("one 1000", "", 1, "fault 7 MAIN line 1\n"),
+        ("one 0", ONE, 13, "steps spent\n"),
+        ("", ONE, 2, "bad words\n"),
+        ("one", ONE, 2, "bad words\n"),
+        ("one 1 2", ONE, 2, "bad words\n"),
+        ("one +2", ONE, 2, "bad words\n"),
+        ("one 9223372036854775808", ONE, 2, "bad words\n"),
+        ("ONE 1", ONE, 2, "bad words\n"),
+    ];
+    for (line, input, status, text) in table {
+        let input = Vec::from_slice(rt.alloc(), input.as_bytes())?;
+        let seen = call(rt, line, input, &[], &[])?;
+        assert_eq!(rt; seen.text.as_slice(), text.as_bytes());
+        assert_eq!(rt; seen.status, status, "at {text}");
+    }
+    Ok(())
+}
+
+// The reads and the writes that fail, the status and what was written.
+#[test]
+fn ports_fail(rt: HostRuntime) -> Result<(), Fail> {
+    let none: &[u64] = &[];
+    let table: [(&str, &[u64], &[u64], u8, &str); 7] = [
+        ("one 1000", &[1], none, 3, "read fault\n"),
+        ("one 1000", &[2], none, 3, "read fault\n"),
+        ("one 1000", none, &[1], 4, ""),
+        ("one 1000", none, &[3], 4, " 1"),
+        ("one 1000", none, &[4], 4, " 1\n"),
+        // A refusal keeps its status.
+        ("one 0", none, &[1], 13, ""),
+        ("two", none, &[1], 2, ""),
+    ];
+    for (line, reads, writes, status, text) in table {
+        let seen = call(
+            rt,
+            line,
+            Vec::from_slice(rt.alloc(), ONE.as_bytes())?,
+            reads,
+            writes,
+        )?;
+        assert_eq!(rt; seen.text.as_slice(), text.as_bytes());
+        assert_eq!(rt; seen.status, status, "at {text}");
+    }
+    Ok(())
+}
+
+// Steps that end within a line: the line is ended before what follows.
+#[test]
+fn spends_steps_within_a_line(rt: HostRuntime) -> Result<(), Fail> {
+    let alloc = rt.alloc();
+    let mut met = false;
+    for steps in ["5", "6", "7", "8", "9", "10", "11", "12"] {
+        let line = ["one ", steps].concat(alloc)?;
+        let input = Vec::from_slice(alloc, b"      PRINT *, 'AB'\n      END\n")?;
+        let seen = call(rt, line.as_str(), input, &[], &[])?;
+        assert_eq!(rt; seen.status, 13);
+        met = met || seen.text.as_slice() == b" A\nsteps spent\n".as_slice();
+    }
+    assert!(rt; met);
+    Ok(())
+}
+
+// One line of comment, so that END is missing in line 2.
+#[test]
+fn takes_an_input_at_the_limit(rt: HostRuntime) -> Result<(), Fail> {
+    let seen = call(
+        rt,
+        "one 1",
+        vec![in rt.alloc(); b'C'; 67_108_864]?,
+        &[],
+        &[],
+    )?;
+    assert_eq!(rt; seen.text.as_slice(), b"fault 7 MAIN line 2\n".as_slice());
+    assert_eq!(rt; seen.status, 1);
+    Ok(())
+}
+
+#[test]
+fn refuses_an_input_past_the_limit(rt: HostRuntime) -> Result<(), Fail> {
+    let seen = call(
+        rt,
+        "one 1",
+        vec![in rt.alloc(); b'C'; 67_108_865]?,
+        &[],
+        &[],
+    )?;
+    assert_eq!(rt;
+        seen.text.as_slice(),
+        b"fault 37 - line 0 limit 67108864\n".as_slice()
+    );
+    assert_eq!(rt; seen.status, 1);
+    Ok(())
+}
+
+#[test]
+fn notes_one_compile(rt: HostRuntime) -> Result<(), Fail> {
+    let seen = call(
+        rt,
+        "one 1000",
+        Vec::from_slice(rt.alloc(), ONE.as_bytes())?,
+        &[],
+        &[],
+    )?;
+    assert_eq!(rt; seen.tally.count(), 1);
+    assert_eq!(rt; seen.tally.kind_at(0), Kind::Compile);
+    assert_eq!(rt; seen.tally.unit_at(0), b"MAIN".as_slice());
+    Ok(())
+}
