@@ -1,5 +1,5 @@
 use super::*;
-use fixed_form::List;
+use fixed_form::{List, Refused};
 use rn_ports::{FreeGate, Kind, ListTally, MemKeeper, MemSink, MemSource};
 use std::test::Fail;
 
@@ -179,5 +179,26 @@ fn notes_one_compile(rt: HostRuntime) -> Result<(), Fail> {
     assert_eq!(rt; seen.tally.count(), 1);
     assert_eq!(rt; seen.tally.kind_at(0), Kind::Compile);
     assert_eq!(rt; seen.tally.unit_at(0), b"MAIN".as_slice());
+    Ok(())
+}
+
+// The number and the line of a fault.
+fn place_of(refused: &Refused) -> (u8, u32) {
+    match refused {
+        Refused::Fault(fault) => (fault.number, fault.place.line),
+        Refused::OutOfMemory => (0, 0),
+    }
+}
+
+#[test]
+fn makes_files(rt: HostRuntime) -> Result<(), Fail> {
+    let alloc = rt.alloc();
+    let mut tally = ListTally::new(alloc)?;
+    let file = thin_file(alloc, ONE.as_bytes(), &mut tally).map_err(|_| "a thin text")?;
+    assert!(rt; file.as_slice().starts_with(b"\x7fELF"));
+    let made = thin_file(alloc, b"      I = 1\n", &mut tally);
+    let refused = made.err().ok_or("a text without END")?;
+    assert_eq!(rt; place_of(&refused), (7, 2));
+    assert_eq!(rt; tally.count(), 1, "the fault isn't noted");
     Ok(())
 }
