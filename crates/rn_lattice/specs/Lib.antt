@@ -1,0 +1,7 @@
+pub mod Order
+pub mod Exact
+pub mod Pairs
+pub mod Flats
+pub mod Duals
+pub mod Maps
+pub mod MapOrders
