@@ -1,9 +1,9 @@
 -- Whether a map is below another is told one entry after another.
-use Rattle.std.specs.Prelude.{◌≡◌, ◌≢◌, Bool, true, false, ◌&&◌, List, ◌∷◌, Option, Some, None, unwrap_or, refl}
+use Rattle.std.specs.Prelude.{◌≡◌, ◌≢◌, Bool, true, false, ◌&&◌, List, ◌∷◌, Some, None, unwrap_or, refl}
 use Rattle.std.specs.declared.cmp.Ordering.{Ordering}
 use Rattle.std.proofs.Common.{ap, sym, ◌∙◌}
 use Rattle.rn_lattice.specs.Order.{IsOrderFrom}
-use Rattle.rn_lattice.specs.Maps.{get, value_at, map_leq}
+use Rattle.rn_lattice.specs.Maps.{get, map_leq}
 
 module _ {K L : Type 0} (cmp : K → K → Ordering) (leq : L → L → Bool) (bottom : L) (m rest other : List (K × L)) (e : K × L)
     (same : map_leq cmp leq bottom m other ≡ map_leq cmp leq bottom (e ∷ rest) other) where

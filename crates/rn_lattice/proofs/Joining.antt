@@ -1,14 +1,14 @@
 -- A map is joined to another one key after another.
-use Rattle.std.specs.Prelude.{◌≡◌, ◌≢◌, Bool, true, false, not, ◌||◌, IsTrue, List, [], ◌∷◌, Option, Some, None, is_some, unwrap_or, All, refl}
+use Rattle.std.specs.Prelude.{◌≡◌, ◌≢◌, Bool, true, false, not, ◌||◌, IsTrue, List, [], ◌∷◌, Some, None, is_some, unwrap_or, All, refl}
 use Rattle.std.specs.Cmp.{IsTotalOrder}
 use Rattle.std.specs.List.Sorted.{IsStrictlySortedBy}
-use Rattle.std.specs.Map.{lookup, keys_of}
+use Rattle.std.specs.Map.{keys_of}
 use Rattle.std.specs.BTreeMap.{is_at}
 use Rattle.std.specs.declared.cmp.Ordering.{Ordering}
 use Rattle.std.specs.declared.cmp.Ordering.TheVariants.{Less, Equal, Greater}
 use Rattle.std.specs.Ordering.{is_eq}
-use Rattle.std.proofs.Common.{ℕ, zero, suc, ap, sym, subst, cond, ◌∙◌, arith}
-use Rattle.std.proofs.lemmas.Bool.{true≢false, not-true}
+use Rattle.std.proofs.Common.{suc, ap, sym, subst, cond, ◌∙◌, arith}
+use Rattle.std.proofs.lemmas.Bool.{true≢false}
 use Rattle.std.proofs.lemmas.Cmp.{eq_by_cmp_equiv, tied_itself}
 use Rattle.std.proofs.lemmas.Map.{lookup-none}
 use Rattle.std.proofs.lemmas.Map.Entries.{none_past_head, lookup_head, lookup_tail}
@@ -17,7 +17,6 @@ use Rattle.std.proofs.lemmas.Map.Lookups.{CmpEqualImpliesEq}
 use Rattle.rn_lattice.specs.Order.{IsOrderFrom, IsJoin}
 use Rattle.rn_lattice.specs.Maps.{get, value_at, map_leq, IsMap}
 use Rattle.rn_lattice.specs.MapOrders.{at_value, below_at, below_from, map_order, join_at}
-use Rattle.rn_lattice.proofs.Keys.{is_at-apart}
 
 same_test : (a b : Bool) → (a ≡ true → b ≡ true) → (b ≡ true → a ≡ true) → a ≡ b
 same_test true b f g = sym (f refl)
@@ -83,13 +82,13 @@ module _ {K L : Type 0} {cmp : K → K → Ordering} (total : IsTotalOrder cmp) 
         let same = join_bottom_same o _ _ (at_value total exact o init j.began e.0) so_far in
         let found : get cmp other e.0 ≡ Some e.1 = j.found 0 e (omega arith) in
         subst (λ r. IsJoin is_value leq (value_at cmp bottom init e.0) (cond (is_some r) bottom (value_at cmp bottom other e.0)) (value_at cmp bottom new e.0)) (sym gone)
-          (subst (λ r. IsJoin is_value leq (value_at cmp bottom init e.0) (unwrap_or r bottom) (value_at cmp bottom new e.0)) (sym found)
-            (subst (λ x. IsJoin is_value leq x e.1 (value_at cmp bottom new e.0)) same joined))
+        (subst (λ r. IsJoin is_value leq (value_at cmp bottom init e.0) (unwrap_or r bottom) (value_at cmp bottom new e.0)) (sym found)
+        (subst (λ x. IsJoin is_value leq x e.1 (value_at cmp bottom new e.0)) same joined))
 
     joins_elsewhere : (q : K) → is_eq (cmp q e.0) ≡ false → IsJoin is_value leq (value_at cmp bottom init q) (cond (is_some (get cmp rest q)) bottom (value_at cmp bottom other q)) (value_at cmp bottom new q)
     joins_elsewhere q not_here =
         subst (λ r. IsJoin is_value leq (value_at cmp bottom init q) (cond (is_some (get cmp rest q)) bottom (value_at cmp bottom other q)) (unwrap_or r bottom)) (sym (others q (apart q not_here)))
-          (subst (λ r. IsJoin is_value leq (value_at cmp bottom init q) (cond (is_some r) bottom (value_at cmp bottom other q)) (value_at cmp bottom now q)) (lookup_tail (is_at (cmp q)) e rest not_here) (j.joins q))
+        (subst (λ r. IsJoin is_value leq (value_at cmp bottom init q) (cond (is_some r) bottom (value_at cmp bottom other q)) (value_at cmp bottom now q)) (lookup_tail (is_at (cmp q)) e rest not_here) (j.joins q))
 
     joins_now : (q : K) → IsJoin is_value leq (value_at cmp bottom init q) (cond (is_some (get cmp rest q)) bottom (value_at cmp bottom other q)) (value_at cmp bottom new q)
     joins_now q = elim (cmp q e.0) as (λ r. cmp q e.0 ≡ r → IsJoin is_value leq (value_at cmp bottom init q) (cond (is_some (get cmp rest q)) bottom (value_at cmp bottom other q)) (value_at cmp bottom new q)) [

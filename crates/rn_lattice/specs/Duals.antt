@@ -1,5 +1,5 @@
 -- An order upside down.
-use Rattle.std.specs.Prelude.{◌≡◌, Bool}
+use Rattle.std.specs.Prelude.{Bool}
 use Rattle.std.proofs.Common.{ap}
 use Rattle.rn_lattice.specs.Order.{IsOrderFrom, IsGreatest}
 use Rattle.rn_lattice.specs.declared.dual.Dual.{Dual}

@@ -1,7 +1,7 @@
 -- The flat order: a value is above the bottom and below the top alone.
 use Rattle.std.specs.Prelude.{◌≡◌, Bool, true, false, IsTrue, ⊤, refl}
 use Rattle.std.specs.Cmp.{IsEquivalence}
-use Rattle.std.proofs.Common.{ap, sym, ◌∙◌}
+use Rattle.std.proofs.Common.{ap, ◌∙◌}
 use Rattle.rn_lattice.specs.Order.{IsOrderFrom, IsGreatest}
 use Rattle.rn_lattice.specs.declared.flat.Flat.{Flat}
 use Rattle.rn_lattice.specs.declared.flat.Flat.TheVariants.{Bottom, Is, Top}

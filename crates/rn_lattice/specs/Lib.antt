@@ -1,5 +1,4 @@
 pub mod Order
-pub mod Exact
 pub mod Pairs
 pub mod Flats
 pub mod Duals

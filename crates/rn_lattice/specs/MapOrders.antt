@@ -1,11 +1,9 @@
 -- The order of maps is a partial order with the empty map below all.
-use Rattle.std.specs.Prelude.{◌≡◌, ◌≢◌, ℕ, Bool, true, false, IsTrue, List, [], ◌∷◌, Option, Some, None, unwrap_or, slice_get, refl}
+use Rattle.std.specs.Prelude.{◌≡◌, ◌≢◌, Bool, IsTrue, List, [], ◌∷◌, Option, Some, None, unwrap_or, refl}
 use Rattle.std.specs.Cmp.{IsTotalOrder}
 use Rattle.std.proofs.lemmas.Cmp.{eq_by_cmp_equiv}
-use Rattle.std.specs.List.{list_all}
 use Rattle.std.specs.List.Sorted.{IsStrictlySortedBy}
-use Rattle.std.specs.Map.{lookup, keys_of}
-use Rattle.std.specs.BTreeMap.{is_at}
+use Rattle.std.specs.Map.{keys_of}
 use Rattle.std.specs.declared.cmp.Ordering.{Ordering}
 use Rattle.std.specs.declared.cmp.Ordering.TheVariants.{Less, Equal, Greater}
 use Rattle.std.specs.Ordering.{is_eq}
@@ -14,14 +12,13 @@ use Rattle.std.proofs.lemmas.Bool.{and_parts}
 use Rattle.std.proofs.lemmas.List.Sums.{list_all-from_AllPass}
 use Rattle.std_collections.specs.Layout.BTreeMap.{btree_map}
 use Rattle.std.proofs.lemmas.Option.{slice_get-get_or}
-use Rattle.std.proofs.lemmas.Map.Entries.{place_from_lookup, lookup_from_place}
+use Rattle.std.proofs.lemmas.Map.Entries.{lookup_from_place}
 use Rattle.std.proofs.lemmas.Map.Keys.{IsDistinct-from_sorted}
 use Rattle.std.proofs.lemmas.Map.Lookups.{CmpEqualImpliesEq, btree_map_from_get}
 use Rattle.rn_lattice.specs.Order.{IsOrderFrom, IsJoin}
 use Rattle.rn_lattice.specs.Maps.{get, value_at, map_leq, IsMap}
 
 module _ {K L : Type 0} {cmp : K → K → Ordering} (total : IsTotalOrder cmp) (exact : CmpEqualImpliesEq cmp) {is_value : L → Type 0} {leq : L → L → Bool} {bottom : L} (o : IsOrderFrom is_value leq bottom) where
-
   -- a value at any key is a value of the type
   pub at_value : (m : List (K × L)) → IsMap cmp is_value bottom m → (q : K) → is_value (value_at cmp bottom m q)
   at_value m h q = elim (get cmp m q) as (λ r. get cmp m q ≡ r → is_value (unwrap_or r bottom)) [

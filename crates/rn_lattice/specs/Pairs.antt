@@ -1,5 +1,5 @@
 -- The order of pairs: each part below the other's.
-use Rattle.std.specs.Prelude.{◌≡◌, Bool, ◌&&◌, refl}
+use Rattle.std.specs.Prelude.{Bool, ◌&&◌}
 use Rattle.std.proofs.Common.{ap, ◌∙◌}
 use Rattle.std.proofs.lemmas.Bool.{and_parts, and_from}
 use Rattle.rn_lattice.specs.Order.{IsOrderFrom, IsGreatest}

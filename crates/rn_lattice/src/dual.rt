@@ -1,6 +1,5 @@
-use std::alloc::{AllocError, Global};
-
 use crate::{Lattice, Meets};
+use std::alloc::{AllocError, Global};
 
 /// A value in the order upside down.
 #[derive(Drop)]

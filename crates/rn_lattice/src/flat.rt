@@ -1,8 +1,7 @@
 ghost use Rattle.std.specs.Prelude.{⊤};
 
-use std::alloc::{AllocError, Global};
-
 use crate::{Lattice, Meets, Plain};
+use std::alloc::{AllocError, Global};
 
 /// Nothing, one value, or anything.
 #[derive(Drop)]

@@ -7,12 +7,11 @@ ghost use Rattle.std.specs.Map.Iter.{ShowsInOrder, deref_pair};
 ghost use Rattle.rn_lattice.specs.Order.{IsJoin};
 ghost use Rattle.rn_lattice.specs.Maps.{get, value_at, IsMap};
 
+use crate::{Key, Lattice};
 use std::alloc::{AllocError, Global};
 use std::collections::BTreeMap;
 use std::collections::btree_map::Iter;
 use std::marker::Model;
-
-use crate::{Key, Lattice};
 
 /// A finite map in the order of its keys. A key that it has not is at the bottom, and it keeps no bottom.
 #[derive(Drop)]

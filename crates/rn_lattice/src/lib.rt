@@ -14,3 +14,6 @@ pub use flat::Flat;
 pub use keyed::Keyed;
 pub use lattice::{Lattice, Meets, join_all};
 pub use pair::Pair;
+
+#[cfg(test)]
+mod tests;

@@ -1,6 +1,5 @@
-use std::alloc::{AllocError, Global};
-
 use crate::{Lattice, Meets};
+use std::alloc::{AllocError, Global};
 
 /// Two parts, each in its own order.
 #[derive(Drop)]

@@ -9,5 +9,5 @@ invariant-loop-value g l =
       in_range : l.value-index ≤ length l.values;
       value : lattice.is_value l.all;
       above : (k : ℕ) (d : _) → k < l.value-index → lattice.is_value (slice_index_or l.values k d) × IsTrue (lattice.leq (slice_index_or l.values k d) l.all);
-      least : (w : _) → lattice.is_value w → All (λ x. IsTrue (lattice.leq x w)) l.values → IsTrue (lattice.leq l.all w)
+      least : (w : _) → lattice.is_value w → All (λ x. IsTrue (lattice.leq x w)) l.values → IsTrue (lattice.leq l.all w);
     }

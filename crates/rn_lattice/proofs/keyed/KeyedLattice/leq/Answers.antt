@@ -1,5 +1,4 @@
-use Rattle.std.proofs.Common.{◌≡◌, Some, None, suc, sym, ap, ◌∙◌, arith}
-use Rattle.std.specs.Option.{option_copied}
+use Rattle.std.proofs.Common.{◌≡◌, Some, None, suc, sym, ◌∙◌, arith}
 use Rattle.rn_lattice.specs.Maps.{get}
 use Rattle.rn_lattice.proofs.Below.{below_goes_on, below_stops}
 use Rattle.rn_lattice.proofs.keyed.KeyedLattice.leq.Goals as goal

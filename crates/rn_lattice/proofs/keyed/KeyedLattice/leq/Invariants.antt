@@ -9,5 +9,5 @@ invariant-loop-key g l =
     let lattice = g.L.Lattice in
     record {
       same : map_leq cmp lattice.leq lattice.bottom l.self l.other ≡ map_leq cmp lattice.leq lattice.bottom l.key-iterator l.other;
-      found : All (λ (e : _ × _). get cmp l.self e.0 ≡ Some e.1) l.key-iterator
+      found : All (λ (e : _ × _). get cmp l.self e.0 ≡ Some e.1) l.key-iterator;
     }
