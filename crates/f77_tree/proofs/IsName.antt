@@ -11,5 +11,5 @@ pub name_here : (word others : List ℕ) (first : ℕ) (b : Bool) → word ≡ f
 name_here word others first b e letter short all =
     all
     ∙ (sym (ap (λ x. (x && nat_le (length (first ∷ others)) 31) && list_all is_word others) letter
-      ∙ ap (λ x. x && list_all is_word others) (within (length (first ∷ others)) 31 (let h : length (first ∷ others) ≤ 31 = omega (arith, ap length e, short) in h)))
+    ∙ ap (λ x. x && list_all is_word others) (within (length (first ∷ others)) 31 (let h : length (first ∷ others) ≤ 31 = omega (arith, ap length e, short) in h)))
     ∙ ap is_name (sym e))

@@ -75,7 +75,11 @@ fn add_declarators(total: u64, all: &List<Declarator>) -> u64
 fn add_block(total: u64, name: &Name) -> u64
     ensures { result ≡ min (total + w.block_weight name.now) w.most }
 {
-    if name.as_bytes().is_empty() { total } else { add(total, 1) }
+    if name.as_bytes().is_empty() {
+        total
+    } else {
+        add(total, 1)
+    }
 }
 
 fn add_common(total: u64, blocks: &List<(Name, List<Declarator>)>) -> u64

@@ -48,3 +48,16 @@ inside_more inside part i h =
     ∙ (inside_append inside (take i part) (get_or part i 0 ∷ []) ∙ (inside_step (inside_from inside (take i part)) (get_or part i 0) [] ∙ inside_none (inside_after (inside_from inside (take i part)) (get_or part i 0))))
 
 pub ruleset so_far = (text_none, inside_none, text_more, inside_more)
+
+-- ---- strange bytes
+
+pub strange_none : (inside : Bool) → has_strange inside [] ≡ false
+unfolding has_strange
+strange_none inside = refl
+
+strange_step : (inside : Bool) (b : ℕ) (bs : Text) → has_strange inside (b ∷ bs) ≡ ((not inside && is_strange b) || has_strange (inside_after inside b) bs)
+unfolding has_strange
+strange_step inside b bs = refl
+
+pub strange_at : (inside : Bool) (bs : Text) (i : ℕ) → i < length bs → not (inside_from inside (take i bs)) ≡ true → is_strange (get_or bs i 0) ≡ true → has_strange inside bs ≡ true
+pub strange_more : (inside : Bool) (bs : Text) (i : ℕ) → i < length bs → has_strange inside bs ≡ has_strange (inside_from inside (take i bs)) (drop i bs)

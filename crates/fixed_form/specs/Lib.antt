@@ -1,2 +1,4 @@
 pub mod Cards
 pub mod Lines
+pub mod Reading
+pub mod UnitNames
