@@ -15,7 +15,7 @@ pub data IsList (text : Text) : Type 0 where
 
 -- what may stand before FUNCTION
 pub data IsTypeWord (word : Text) : Type 0 where
-  none : word ≡ [] → IsTypeWord word
+  untyped : word ≡ [] → IsTypeWord word
   integer : word ≡ codes "INTEGER" → IsTypeWord word
   logical : word ≡ codes "LOGICAL" → IsTypeWord word
   real : word ≡ codes "REAL" → IsTypeWord word

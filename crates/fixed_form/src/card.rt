@@ -1,9 +1,9 @@
 //! Lines by their columns.
-ghost use Rattle.std.specs.Prelude.{◌≡◌, ◌≤◌, ◌<◌, ◌+◌, ◌*◌, ◌||◌, ◌==◌, ◌++◌, length, map, option_to_list, slice_index_or, IfOk, OnOk};
+ghost use Rattle.std.specs.Prelude.{◌≡◌, ◌≤◌, ◌<◌, ◌+◌, ◌*◌, ◌||◌, ◌&&◌, ◌==◌, not, ◌++◌, length, map, option_to_list, slice_index_or, IfOk, OnOk};
 ghost use Rattle.std.specs.List.{list_all, list_any, range_with_len};
 ghost use Rattle.fixed_form.specs.Cards as c;
 
-use sqlite_items::Items as List;
+use f77_tree::List;
 use std::alloc::{AllocError, Global};
 
 #[tactic(auto, using(crate::proofs::Padding::by_columns))]
@@ -106,16 +106,21 @@ fn is_strange(b: u8) -> bool
     b < 32 || b >= 127
 }
 
-#[tactic(auto, using(crate::proofs::TextSoFar::strange_so_far))]
+fn strange_at(inside: bool, b: u8) -> bool
+    ensures { result ≡ (not inside && c.is_strange b) }
+{
+    !inside && is_strange(b)
+}
+
 fn has_strange(inside: bool, field: &[u8]) -> bool
     ensures { result ≡ c.has_strange inside field.now }
 {
     let mut behind = inside;
-    'column: for i in 0..field.len() {
-        if !behind && is_strange(field[i]) {
+    for b in field {
+        if strange_at(behind, *b) {
             return true;
         }
-        behind = inside_after(behind, field[i]);
+        behind = inside_after(behind, *b);
     }
     false
 }
