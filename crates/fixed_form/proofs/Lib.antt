@@ -1,3 +1,9 @@
+pub mod HeadNames
+pub mod Labels
 pub mod Padding
+pub mod Reading
+pub mod Sources
 pub mod Splits
+pub mod Steps
 pub mod TextSoFar
+pub mod WordRuns

@@ -1,9 +1,9 @@
 -- The text that columns leave, one column at a time.
-use Rattle.std.proofs.Common.{◌≡◌, ℕ, ◌+◌, ◌<◌, Bool, [], ◌∷◌, ◌++◌, length, take, get_or, ap, sym, ◌∙◌, refl, append_assoc}
-use Rattle.std.proofs.lemmas.List.{take_more, append-nil}
+use Rattle.std.proofs.Common.{◌≡◌, ℕ, ◌+◌, ◌<◌, ◌≤◌, Bool, true, false, not, ◌&&◌, ◌||◌, [], ◌∷◌, ◌++◌, length, take, drop, drop-cons, add-one, get_or, ap, sym, ◌∙◌, refl, append_assoc}
+use Rattle.std.proofs.lemmas.List.{take_more, append-nil, drop_all}
 use Rattle.std.proofs.lemmas.List.Sums.{fold-append}
 use Rattle.fixed_form.specs.Lines.{Text}
-use Rattle.fixed_form.specs.Cards.{kept, inside_after, inside_from, text_from}
+use Rattle.fixed_form.specs.Cards.{kept, inside_after, inside_from, text_from, is_strange, has_strange}
 
 pub inside_append : (inside : Bool) (xs ys : Text) → inside_from inside (xs ++ ys) ≡ inside_from (inside_from inside xs) ys
 unfolding inside_from
@@ -48,3 +48,41 @@ inside_more inside part i h =
     ∙ (inside_append inside (take i part) (get_or part i 0 ∷ []) ∙ (inside_step (inside_from inside (take i part)) (get_or part i 0) [] ∙ inside_none (inside_after (inside_from inside (take i part)) (get_or part i 0))))
 
 pub ruleset so_far = (text_none, inside_none, text_more, inside_more)
+
+-- ---- strange bytes
+
+pub strange_none : (inside : Bool) → has_strange inside [] ≡ false
+unfolding has_strange
+strange_none inside = refl
+
+strange_step : (inside : Bool) (b : ℕ) (bs : Text) → has_strange inside (b ∷ bs) ≡ ((not inside && is_strange b) || has_strange (inside_after inside b) bs)
+unfolding has_strange
+strange_step inside b bs = refl
+
+-- how much of the answer is known after i columns
+pub strange_more : (inside : Bool) (bs : Text) (i : ℕ) → i < length bs → has_strange (inside_from inside (take i bs)) (drop i bs)
+    ≡ ((not (inside_from inside (take i bs)) && is_strange (get_or bs i 0)) || has_strange (inside_from inside (take (i + 1) bs)) (drop (i + 1) bs))
+strange_more inside bs i h =
+    ap (has_strange (inside_from inside (take i bs))) (drop-cons bs i 0 h ∙ ap (λ n. get_or bs i 0 ∷ drop n bs) (sym (add-one i)))
+    ∙ (strange_step (inside_from inside (take i bs)) (get_or bs i 0) (drop (i + 1) bs)
+    ∙ ap (λ behind. (not (inside_from inside (take i bs)) && is_strange (get_or bs i 0)) || has_strange behind (drop (i + 1) bs)) (sym (inside_more inside bs i h)))
+
+or_true : (a b : Bool) → a ≡ true → (a || b) ≡ true
+or_true a b h = ap (λ a. a || b) h
+
+or_false : (a b : Bool) → a ≡ false → (a || b) ≡ b
+or_false a b h = ap (λ a. a || b) h
+
+pub strange_here : (inside behind : Bool) (bs : Text) (i : ℕ) → i < length bs → behind ≡ inside_from inside (take i bs) → has_strange inside bs ≡ has_strange behind (drop i bs) →
+    (not behind && is_strange (get_or bs i 0)) ≡ true → true ≡ has_strange inside bs
+strange_here inside behind bs i h e known found =
+    sym (known ∙ (ap (λ b. has_strange b (drop i bs)) e ∙ (strange_more inside bs i h ∙ or_true _ _ (ap (λ b. not b && is_strange (get_or bs i 0)) (sym e) ∙ found))))
+
+pub strange_next : (inside behind : Bool) (bs : Text) (i : ℕ) → i < length bs → behind ≡ inside_from inside (take i bs) → has_strange inside bs ≡ has_strange behind (drop i bs) →
+    (not behind && is_strange (get_or bs i 0)) ≡ false → has_strange inside bs ≡ has_strange (inside_after behind (get_or bs i 0)) (drop (i + 1) bs)
+strange_next inside behind bs i h e known none =
+    known ∙ (ap (λ b. has_strange b (drop i bs)) e ∙ (strange_more inside bs i h ∙ (or_false _ _ (ap (λ b. not b && is_strange (get_or bs i 0)) (sym e) ∙ none)
+    ∙ ap (λ b. has_strange b (drop (i + 1) bs)) (inside_more inside bs i h ∙ ap (λ b. inside_after b (get_or bs i 0)) (sym e)))))
+
+pub strange_end : (inside behind : Bool) (bs : Text) (i : ℕ) → length bs ≤ i → has_strange inside bs ≡ has_strange behind (drop i bs) → false ≡ has_strange inside bs
+strange_end inside behind bs i h known = sym (known ∙ (ap (has_strange behind) (drop_all i bs h) ∙ strange_none behind))

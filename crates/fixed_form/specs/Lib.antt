@@ -1,2 +1,7 @@
 pub mod Cards
+pub mod Heads
 pub mod Lines
+pub mod Progress
+pub mod Reading
+pub mod UnitNames
+pub mod Words

@@ -1,13 +1,17 @@
-//! The fixed form of a source text, and the names and faults that every layer speaks of.
+//! The fixed form of a source text: its lines, its statements and its units.
 #![tactic(auto)]
 
 mod card;
-mod fault;
 mod lines;
-mod name;
+mod reader;
+mod unit_names;
+mod words;
 
 pub use card::{columns, is_blank, is_comment_line, push_text};
-pub use fault::{Place, Refused, SourceFault};
+pub use f77_tree::{List, Name, Place, Refused, SourceFault};
 pub use lines::next_line;
-pub use name::Name;
-pub use sqlite_items::Items as List;
+pub use reader::{Line, UnitText, read_units, same_source};
+pub use unit_names::unit_name;
+
+#[cfg(test)]
+mod tests;

@@ -6,7 +6,7 @@ use Rattle.std.specs.Io.KnownBytes.{Appends}
 use Rattle.std.specs.declared.option.Option.{Option}
 use Rattle.rn_ports.specs.Sent.{AppendsPart}
 use Rattle.rn_ports.specs.declared.ports.Kind.{Kind}
-use Rattle.fixed_form.specs.declared.fault.SourceFault.{SourceFault}
+use Rattle.f77_tree.specs.declared.fault.SourceFault.{SourceFault}
 use Rattle.rv_machine.specs.declared.outcome.Outcome.{Outcome}
 use Rattle.rv_machine.specs.declared.outcome.Outcome.TheVariants.{Running, Halted, Trap}
 use Rattle.rv_machine.specs.Machine.{State}

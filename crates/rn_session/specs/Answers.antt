@@ -5,9 +5,9 @@ use Rattle.std.specs.declared.option.Option.{Option}
 use Rattle.rn_ports.specs.Sent.{AppendsPart}
 use Rattle.rn_ports.specs.declared.ports.Kind.{Kind}
 use Rattle.rn_ports.specs.declared.ports.Kind.TheVariants.{Compile}
-use Rattle.fixed_form.specs.declared.fault.SourceFault.{SourceFault}
-use Rattle.fixed_form.specs.declared.fault.Refused.{Refused}
-use Rattle.fixed_form.specs.declared.fault.Refused.TheVariants.{Fault, OutOfMemory as Starved}
+use Rattle.f77_tree.specs.declared.fault.SourceFault.{SourceFault}
+use Rattle.f77_tree.specs.declared.fault.Refused.{Refused}
+use Rattle.f77_tree.specs.declared.fault.Refused.TheVariants.{Fault, OutOfMemory as Starved}
 use Rattle.fixed_form.specs.Lines.{lines_of}
 use Rattle.thin_form.specs.declared.statement.Statement.{Statement}
 use Rattle.thin_form.specs.Texts.{IsThin, IsThinFault, text_bytes}

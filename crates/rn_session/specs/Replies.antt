@@ -1,6 +1,6 @@
 -- What a run replies.
 use Rattle.std.specs.Prelude.{◌≡◌, ◌≢◌, ℕ, Bool, false, List, [], ◌∷◌, ◌++◌, ◌⊎◌, if◌then◌else◌, codes, decimal}
-use Rattle.fixed_form.specs.declared.fault.SourceFault.{SourceFault}
+use Rattle.f77_tree.specs.declared.fault.SourceFault.{SourceFault}
 use Rattle.rv_machine.specs.declared.outcome.Outcome.{Outcome}
 use Rattle.rv_machine.specs.declared.outcome.Outcome.TheVariants.{Running, Halted, Trap}
 use Rattle.rv_machine.specs.Lines.{within_line}

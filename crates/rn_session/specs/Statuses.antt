@@ -1,7 +1,7 @@
 -- The statuses as numbers, and the lines that tell of them.
 use Rattle.std.specs.Prelude.{ℕ, zero, suc, ◌+◌, ◌/◌, ◌%◌, ◌==◌, nat_lt, List, [], ◌∷◌, ◌++◌, None, Some, if◌then◌else◌, codes, decimal}
 use Rattle.std.specs.declared.option.Option.{Option}
-use Rattle.fixed_form.specs.declared.fault.SourceFault.{SourceFault}
+use Rattle.f77_tree.specs.declared.fault.SourceFault.{SourceFault}
 use Rattle.rv_machine.specs.declared.outcome.TrapCause.{TrapCause}
 use Rattle.rv_machine.specs.declared.outcome.TrapCause.TheVariants.{Misaligned, Unmapped, UnknownWord, Breakpoint, UnknownCall}
 use Rattle.rn_session.specs.declared.status.Status.{Status}

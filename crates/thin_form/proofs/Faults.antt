@@ -5,8 +5,8 @@ use Rattle.std.proofs.lemmas.List.{append-nil}
 use Rattle.std.proofs.lemmas.List.Sums.{sum_by_push, sum_by-append, sum_by-cons}
 use Rattle.std.proofs.Math.ListN.{get_or-append}
 use Rattle.std.proofs.Math.Seq.{get_or-append_seam}
-use Rattle.fixed_form.specs.declared.fault.Refused.{Refused}
-use Rattle.fixed_form.specs.declared.fault.Refused.TheVariants.{Fault, OutOfMemory}
+use Rattle.f77_tree.specs.declared.fault.Refused.{Refused}
+use Rattle.f77_tree.specs.declared.fault.Refused.TheVariants.{Fault, OutOfMemory}
 use Rattle.fixed_form.specs.Lines.{Text}
 use Rattle.fixed_form.specs.Cards.{columns, is_blank, is_comment, text_from}
 use Rattle.thin_form.specs.declared.statement.Statement.{Statement}

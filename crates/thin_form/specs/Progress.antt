@@ -1,8 +1,8 @@
 -- How far a reader has come in the lines of a text.
 use Rattle.std.specs.Prelude.{◌≡◌, ℕ, ◌+◌, ◌≤◌, ◌<◌, Bool, true, false, List, [], ◌∷◌, ◌++◌, Some, length, min, sum_by, codes}
 use Rattle.std.specs.List.{All}
-use Rattle.fixed_form.specs.declared.fault.Refused.{Refused}
-use Rattle.fixed_form.specs.declared.fault.Refused.TheVariants.{Fault, OutOfMemory}
+use Rattle.f77_tree.specs.declared.fault.Refused.{Refused}
+use Rattle.f77_tree.specs.declared.fault.Refused.TheVariants.{Fault, OutOfMemory}
 use Rattle.fixed_form.specs.Lines.{Text, lines_of}
 use Rattle.thin_form.specs.declared.statement.Statement.{Statement}
 use Rattle.thin_form.specs.declared.statement.Statement.TheVariants.{Assign, Print, End}

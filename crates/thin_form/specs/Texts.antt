@@ -1,9 +1,9 @@
 -- Which texts are thin, and which line is the first that no thin text has.
 use Rattle.std.specs.Prelude.{◌≡◌, ℕ, ◌+◌, ◌≤◌, ◌<◌, ◌&&◌, nat_le, Bool, true, false, if◌then◌else◌, List, [], ◌∷◌, ◌++◌, Some, length, take, min, sum_by, codes}
 use Rattle.std.specs.List.{All, list_all}
-use Rattle.fixed_form.specs.declared.fault.SourceFault.{SourceFault}
-use Rattle.fixed_form.specs.declared.fault.Refused.{Refused}
-use Rattle.fixed_form.specs.declared.fault.Refused.TheVariants.{Fault, OutOfMemory}
+use Rattle.f77_tree.specs.declared.fault.SourceFault.{SourceFault}
+use Rattle.f77_tree.specs.declared.fault.Refused.{Refused}
+use Rattle.f77_tree.specs.declared.fault.Refused.TheVariants.{Fault, OutOfMemory}
 use Rattle.fixed_form.specs.Lines.{Text}
 use Rattle.fixed_form.specs.Cards.{columns, is_comment, is_blank, text_field, statement_text}
 use Rattle.thin_form.specs.declared.statement.Statement.{Statement}

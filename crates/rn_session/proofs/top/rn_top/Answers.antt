@@ -1,6 +1,6 @@
 use Rattle.std.proofs.Common.{ℕ, List, Err, refl, sym, ap, ◌∙◌, subst}
 use Rattle.fixed_form.specs.Lines.{lines_of}
-use Rattle.fixed_form.specs.declared.fault.Refused.{Refused}
+use Rattle.f77_tree.specs.declared.fault.Refused.{Refused}
 use Rattle.thin_form.specs.Texts.{Explains}
 use Rattle.rn_ports.specs.Causes.{Rose}
 use Rattle.rv_machine.specs.Machine.{run}

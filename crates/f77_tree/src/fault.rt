@@ -30,7 +30,7 @@ pub enum Refused {
 }
 
 impl From<AllocError> for Refused {
-    ghost use Rattle.fixed_form.specs.declared.fault.Refused.TheVariants.{OutOfMemory};
+    ghost use Rattle.f77_tree.specs.declared.fault.Refused.TheVariants.{OutOfMemory};
 
     ghost from_gives = { λ _ e. e ≡ OutOfMemory };
 

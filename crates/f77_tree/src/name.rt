@@ -1,9 +1,11 @@
 //! Names of units, variables and COMMON blocks.
-ghost use Rattle.std.specs.Prelude.{◌≡◌, IfOk, nat_eq};
+ghost use Rattle.std.specs.Prelude.{◌≡◌, [], map, IfOk, nat_eq};
+ghost use Rattle.std.specs.List.{list_all};
 ghost use Rattle.std.specs.Cmp.Lexicographic.{pointwise};
 ghost use Rattle.std.specs.Cmp.Rules.{comparing, hashing};
 ghost use Rattle.std.specs.Hash as fed;
 ghost use Rattle.std.proofs.Common.{rules};
+ghost use Rattle.f77_tree.specs.Names as n;
 
 use sqlite_items::Items as List;
 use std::alloc::{AllocError, Global};
@@ -71,4 +73,63 @@ impl Hash for Name {
     fn hash<H: Hasher>(&self, state: &mut H) {
         self.as_bytes().hash(state);
     }
+}
+
+fn capital(b: u8) -> u8
+    ensures { result ≡ n.capital b }
+{
+    if b >= b'a' && b <= b'z' { b - 32 } else { b }
+}
+
+fn is_letter(b: u8) -> bool
+    ensures { result ≡ n.is_letter b }
+{
+    b >= b'A' && b <= b'Z'
+}
+
+fn is_word(b: u8) -> bool
+    ensures { result ≡ n.is_word b }
+{
+    is_letter(b) || (b >= b'0' && b <= b'9') || b == b'_'
+}
+
+fn all_word(part: &[u8]) -> bool
+    ensures { result ≡ list_all n.is_word part.now }
+{
+    part.iter().all(|b| is_word(*b))
+}
+
+/// Whether bytes are a letter and at most 30 letters, digits or `_` behind it, all in capitals.
+fn is_name(word: &[u8]) -> bool
+    ensures { result ≡ n.is_name word.now }
+{
+    let Some((first, others)) = word.split_first() else {
+        return false;
+    };
+    is_letter(*first) && word.len() <= 31 && all_word(others)
+}
+
+fn in_capitals(alloc: Global, word: &[u8]) -> Result<Vec<u8>, AllocError>
+    ensures { IfOk result (λ all. all.items ≡ map n.capital word.now) }
+{
+    word.iter().map(|b| capital(*b)).collect(alloc)
+}
+
+/// The name that a word is in capitals, if it is one.
+pub fn name_of(alloc: Global, word: &[u8]) -> Result<Option<Name>, AllocError>
+    ensures { IfOk result (λ found. found ≡ n.name_of word.now) }
+{
+    let capitals = in_capitals(alloc, word)?;
+    if is_name(capitals.as_slice()) {
+        Ok(Some(Name::from_list(List::from_vec(capitals))))
+    } else {
+        Ok(None)
+    }
+}
+
+/// The empty name, which blank COMMON has. It takes no memory.
+pub fn blank_name(alloc: Global) -> Name
+    ensures { result ≡ [] }
+{
+    Name::from_list(List::new(alloc))
 }

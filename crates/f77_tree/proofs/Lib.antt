@@ -1,0 +1,2 @@
+pub mod IsName
+pub mod Sums
