@@ -1,7 +1,6 @@
 -- The name in a head.
-use Rattle.std.proofs.Common.{◌≡◌, ℕ, zero, suc, ◌+◌, ◌<◌, ◌≤◌, Bool, true, false, ◌==◌, List, [], ◌∷◌, ◌++◌, length, take, drop, get_or, codes, ap, sym, ◌∙◌, subst, refl, arith, append_assoc, length-append, MatchBool, MatchOption, Option, Some, None, ◌⊎◌, inl, inr}
+use Rattle.std.proofs.Common.{◌≡◌, ℕ, suc, ◌<◌, Bool, true, false, ◌==◌, [], ◌∷◌, ◌++◌, length, take, drop, codes, ap, sym, ◌∙◌, subst, refl, arith, length-append, MatchBool, MatchOption, Option, Some, None, ◌⊎◌, inl, inr}
 use Rattle.std.specs.Borrow.{Bor}
-use Rattle.std.specs.List.{list_all}
 use Rattle.std.proofs.lemmas.List.{take-append-drop, append-nil}
 use Rattle.std.proofs.lemmas.Bool.Decides.{nat_tests}
 use Rattle.f77_tree.specs.Names.{is_word, is_name}

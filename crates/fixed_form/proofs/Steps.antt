@@ -1,5 +1,5 @@
 -- One more line.
-use Rattle.std.proofs.Common.{◌≡◌, ◌≢◌, ℕ, suc, ◌+◌, ◌<◌, ◌≤◌, Bool, true, false, List, [], ◌∷◌, ◌++◌, length, map, fold, min, cond, get_or, ap, sym, ◌∙◌, subst, refl, arith, Some, None, Option, option_map, append_assoc, length-append, flat_map, add-one, add-zero}
+use Rattle.std.proofs.Common.{◌≡◌, ℕ, ◌+◌, ◌<◌, ◌≤◌, Bool, true, false, List, [], ◌∷◌, ◌++◌, length, map, fold, cond, get_or, ap, sym, ◌∙◌, subst, refl, arith, Some, None, Option, option_map, append_assoc, length-append, flat_map}
 use Rattle.std.specs.List.{All}
 use Rattle.std.specs.Option.{is_some}
 use Rattle.std.proofs.lemmas.List.{append-nil, map-append}
@@ -17,7 +17,7 @@ use Rattle.fixed_form.specs.declared.reader.Current.{Current}
 use Rattle.fixed_form.specs.declared.reader.Reader.{Reader}
 use Rattle.fixed_form.specs.Lines.{Text}
 use Rattle.fixed_form.specs.Cards.{columns, is_comment, is_initial, is_label, is_end, is_blank, statement_kind, kind_of, label_field, text_field, value_of, text_from, inside_from, card_strange}
-use Rattle.fixed_form.specs.Reading.{told, kind_at, field_at, Progress, after, place_of, inside_at, fault, fault_at, HasNoFault, FirstFault, at_line, at_the_end, IsFirstFault, Explains, Card, card_of, next_number, cards_from, Group, cards_of, fields_of, statement_of, IsStatement, IsUnit, Parts, groups_of, statements_of, IsNamed, Reads}
+use Rattle.fixed_form.specs.Reading.{told, kind_at, field_at, Progress, after, place_of, inside_at, fault, fault_at, HasNoFault, FirstFault, at_line, at_the_end, Explains, Card, card_of, next_number, cards_from, Group, cards_of, fields_of, statement_of, IsStatement, IsUnit, Parts, groups_of, statements_of, IsNamed, Reads}
 use Rattle.fixed_form.specs.Progress.{begun_at, longer, closed, inside_current, open_cards, IsOpen, open_of, progress_of, number_after, Stands, StandsIn, IsNextCard, RefusesAt, IsClosed}
 use Rattle.fixed_form.proofs.TextSoFar.{text_append, inside_append}
 

@@ -1,8 +1,8 @@
 -- What stands at the front of a text, for the functions that look for a head.
-use Rattle.std.specs.Prelude.{◌≡◌, ℕ, Bool, true, false, List, [], ◌∷◌, ◌++◌, codes}
+use Rattle.std.specs.Prelude.{◌≡◌, ℕ, true, false, ◌∷◌, ◌++◌, codes}
 use Rattle.f77_tree.specs.Names.{is_name, is_word}
 use Rattle.fixed_form.specs.Lines.{Text}
-use Rattle.fixed_form.specs.UnitNames.{AreNames, IsList, IsTypeWord, IsHead}
+use Rattle.fixed_form.specs.UnitNames.{IsList, IsTypeWord}
 
 -- the text doesn't begin with this word
 pub record Lacks (text word : Text) : Type 0 where

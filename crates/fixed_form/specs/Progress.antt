@@ -1,5 +1,5 @@
 -- How far a reader has come in the lines of a text.
-use Rattle.std.specs.Prelude.{◌≡◌, ℕ, ◌+◌, ◌≤◌, Bool, true, false, List, [], ◌∷◌, ◌++◌, Option, Some, None, fold, flat_map, map, length, min, option_map}
+use Rattle.std.specs.Prelude.{◌≡◌, ℕ, ◌+◌, ◌≤◌, Bool, false, List, [], ◌∷◌, ◌++◌, Option, Some, None, fold, flat_map, map, length, option_map}
 use Rattle.std.specs.List.{All}
 use Rattle.f77_tree.specs.declared.fault.Refused.{Refused}
 use Rattle.f77_tree.specs.declared.fault.Refused.TheVariants.{Fault, OutOfMemory}
@@ -10,7 +10,7 @@ use Rattle.fixed_form.specs.declared.reader.UnitText.{UnitText}
 use Rattle.fixed_form.specs.declared.reader.Current.{Current}
 use Rattle.fixed_form.specs.declared.reader.Reader.{Reader}
 use Rattle.fixed_form.specs.Lines.{Text, lines_of}
-use Rattle.fixed_form.specs.Cards.{columns, is_comment, statement_kind, label_field, text_field, value_of, text_from, inside_from}
+use Rattle.fixed_form.specs.Cards.{columns, is_comment, label_field, text_field, value_of, text_from, inside_from}
 use Rattle.fixed_form.specs.Reading.{told, kind_at, Progress, place_of, HasNoFault, Card, cards_from, next_number, Group, cards_of, fields_of, statement_of, IsStatement, IsUnit, Parts, groups_of, statements_of, IsNamed}
 
 -- ---- statements in progress

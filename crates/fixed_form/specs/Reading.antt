@@ -1,5 +1,5 @@
 -- Which units a text has, and which fault comes first.
-use Rattle.std.specs.Prelude.{◌≡◌, ℕ, ◌+◌, ◌<◌, ◌≤◌, Bool, true, false, List, [], ◌∷◌, ◌++◌, Option, Some, None, if◌then◌else◌, ◌==◌, fold, flat_map, map, length, min, option_map}
+use Rattle.std.specs.Prelude.{◌≡◌, ℕ, ◌+◌, ◌≤◌, Bool, true, false, List, [], ◌∷◌, ◌++◌, Option, Some, None, if◌then◌else◌, ◌==◌, fold, flat_map, map, length, min}
 use Rattle.std.specs.List.{All}
 use Rattle.f77_tree.specs.declared.fault.SourceFault.{SourceFault}
 use Rattle.f77_tree.specs.declared.fault.Refused.{Refused}

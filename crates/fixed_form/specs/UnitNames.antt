@@ -1,5 +1,5 @@
 -- The name of a unit, from the text of its first statement (ANSI X3.9-1978, sections 13 to 16).
-use Rattle.std.specs.Prelude.{◌≡◌, ℕ, Bool, true, List, [], ◌∷◌, ◌++◌, codes}
+use Rattle.std.specs.Prelude.{◌≡◌, true, [], ◌∷◌, ◌++◌, codes}
 use Rattle.f77_tree.specs.Names.{is_name}
 use Rattle.fixed_form.specs.Lines.{Text}
 

@@ -1,5 +1,5 @@
 -- Where the word at the front of a text ends.
-use Rattle.std.specs.Prelude.{◌≡◌, ℕ, ◌<◌, ◌≤◌, Bool, true, false, List, [], ◌∷◌, length, take, slice_index}
+use Rattle.std.specs.Prelude.{◌≡◌, ℕ, ◌<◌, ◌≤◌, true, false, [], ◌∷◌, length, take, slice_index}
 use Rattle.std.specs.List.{list_all}
 use Rattle.f77_tree.specs.Names.{is_word}
 use Rattle.fixed_form.specs.Lines.{Text}

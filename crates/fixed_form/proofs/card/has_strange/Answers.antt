@@ -1,5 +1,5 @@
-use Rattle.std.proofs.Common.{◌≡◌, refl, sym, ◌∙◌, ap, take, get_or}
-use Rattle.fixed_form.specs.Cards.{inside_after, has_strange}
+use Rattle.std.proofs.Common.{refl, sym, ◌∙◌, ap, get_or}
+use Rattle.fixed_form.specs.Cards.{inside_after}
 use Rattle.fixed_form.proofs.TextSoFar.{inside_none, inside_more, strange_here, strange_next, strange_end}
 use Rattle.fixed_form.proofs.card.has_strange.Goals as goal
 

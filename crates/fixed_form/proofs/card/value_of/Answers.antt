@@ -1,7 +1,5 @@
 use Rattle.std.proofs.Common.{arith, get_or}
 use Rattle.std.proofs.lemmas.List.Sums.{fold_more}
-use Rattle.std.proofs.lemmas.Bool.Decides.{nat_tests}
-use Rattle.fixed_form.specs.Cards.{with_digit}
 use Rattle.fixed_form.proofs.Labels.{ten, ten_more, with_digit_small}
 use Rattle.fixed_form.proofs.card.value_of.Goals as goal
 

@@ -1,5 +1,5 @@
 use Rattle.std.proofs.Common.{sym, ◌∙◌}
-use Rattle.fixed_form.proofs.Reading.{gone_start, gone_next, gone_err, gone_open, gone_all}
+use Rattle.fixed_form.proofs.Reading.{gone_start, gone_next, gone_open}
 use Rattle.fixed_form.proofs.reader.read_units.Goals as goal
 
 pub line-init : goal.line-init

@@ -1,4 +1,4 @@
-use Rattle.std.proofs.Common.{◌≡◌, sym, ◌∙◌, ap, arith, subst, IsTrue}
+use Rattle.std.proofs.Common.{sym, ◌∙◌, ap, arith, subst, IsTrue}
 use Rattle.fixed_form.specs.Reading.{source_of, label_and_text}
 use Rattle.std.proofs.Common.{map}
 use Rattle.fixed_form.proofs.Sources.{same_at}

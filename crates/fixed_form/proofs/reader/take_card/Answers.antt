@@ -1,6 +1,6 @@
-use Rattle.std.proofs.Common.{◌≡◌, ap, sym, ◌∙◌, arith, false, subst}
+use Rattle.std.proofs.Common.{ap, sym, ◌∙◌, arith, subst}
 use Rattle.fixed_form.specs.declared.card.LineKind.TheVariants as kind
-use Rattle.fixed_form.specs.Cards.{card_strange, columns}
+use Rattle.fixed_form.specs.Cards.{card_strange}
 use Rattle.fixed_form.specs.Progress.{inside_current}
 use Rattle.fixed_form.proofs.Steps.{NoComment, no_comment, kind_here, stands_comment, stands_initial, stands_end, stands_continued, first_strange, first_label, first_lone, first_many, plain, outside_initial, outside_end}
 use Rattle.fixed_form.proofs.reader.take_card.Goals as goal
