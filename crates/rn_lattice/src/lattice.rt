@@ -57,6 +57,16 @@ pub trait Meets: Lattice {
     ghost greatest: { IsGreatest Self.is_value Self.leq top };
 }
 
+/// The least upper bound of the two.
+pub fn joined<L: Lattice + Drop>(alloc: Global, left: L, right: &L) -> Result<L, AllocError>
+    ensures joins { IfOk result (λ it. IsJoin L.is_value L.leq left right.now it) }
+    ensures risen { IfOk result (λ it. IsTrue (L.leq left it)) }
+{
+    let mut value = left;
+    value.join(alloc, right)?;
+    Ok(value)
+}
+
 /// The least upper bound of the values.
 pub fn join_all<L: Lattice + Drop>(alloc: Global, values: &[L]) -> Result<L, AllocError>
     ensures value { IfOk result L.is_value }

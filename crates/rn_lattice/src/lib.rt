@@ -12,7 +12,7 @@ pub use dual::Dual;
 pub use exact::{Key, Plain};
 pub use flat::Flat;
 pub use keyed::Keyed;
-pub use lattice::{Lattice, Meets, join_all};
+pub use lattice::{Lattice, Meets, join_all, joined};
 pub use pair::Pair;
 
 #[cfg(test)]

@@ -160,6 +160,7 @@ fn all_of_a_list_are_joined(rt: HostRuntime) -> Result<(), Fail> {
     let nothing: [Flat<u8>; 0] = [];
     assert!(rt; is_same(&join_all(alloc, &nothing)?, &flat(0)));
     assert!(rt; is_same(&join_all(alloc, &[flat(0), flat(4), flat(4)])?, &flat(4)));
+    assert!(rt; is_same(&super::joined(alloc, flat(4), &flat(5))?, &flat(9)));
     assert!(rt; is_same(&join_all(alloc, &[dual(4), dual(5)])?, &dual(0)));
     let nested = [
         Pair {
