@@ -1,0 +1,4 @@
+pub mod Queues
+pub mod Weights
+pub mod Reading
+pub mod Solving

@@ -1,0 +1,5 @@
+pub mod Systems
+pub mod Noting
+pub mod Worklists
+pub mod Readers
+pub mod Adding
