@@ -54,8 +54,8 @@ fn reads_units(rt: HostRuntime) -> Result<(), Fail> {
             "MAIN|1 0 PRINT*,'A                                                       B'|4 0 END;",
         ),
         (
-            "      PRINT *,                                                       '\n     1')'\n      END\n",
-            "MAIN|1 0 PRINT*,'')'|3 0 END;",
+            "      PRINT *, 'A                                                      '\n     1'B'\n      END\n",
+            "MAIN|1 0 PRINT*,'A                                                      ''B'|3 0 END;",
         ),
         (
             "      PRINT *, '\x7f\t'\n      END\n",
