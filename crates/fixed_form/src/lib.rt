@@ -14,4 +14,6 @@ pub use reader::{Line, UnitText, read_units, same_source};
 pub use unit_names::unit_name;
 
 #[cfg(test)]
+mod slowly;
+#[cfg(test)]
 mod tests;

@@ -1,3 +1,4 @@
+use super::slowly::slowly;
 use super::{Refused, read_units, same_source, unit_name};
 use std::alloc::{AllocError, Global};
 use std::test::Fail;
@@ -166,6 +167,38 @@ fn compares_sources(rt: HostRuntime) -> Result<(), Fail> {
         let all = units.as_slice();
         assert!(rt; same_source(&all[0], &all[1]));
         assert!(rt; !same_source(&all[0], &all[2]));
+    }
+    Ok(())
+}
+
+/// Each text of two of these lines and an END line.
+#[test]
+fn reads_as_a_slow_reading_does(rt: HostRuntime) -> Result<(), Fail> {
+    let alloc = rt.alloc();
+    let lines = [
+        "      I = 1",
+        "  010 print *, 'aB '",
+        "     1+ 'c d''",
+        "     & it''s'",
+        "     0subroutine s(k, l)",
+        "      end",
+        "   20 E N D\r",
+        "C \x7f",
+        "",
+        "      K = 'open",
+        "      K = '\x7f'",
+        "     1\x7f'",
+        " 0 0  J = 2",
+        "A    1J",
+        "   30",
+    ];
+    for first in lines {
+        for second in lines {
+            let text = [first, "\n", second, "\n      END\n"].concat(alloc)?;
+            let found = told(alloc, text.as_bytes())?;
+            let wanted = slowly(alloc, text.as_bytes())?;
+            assert_eq!(rt; found.as_slice(), wanted.as_slice(), "at {text}");
+        }
     }
     Ok(())
 }
