@@ -3,3 +3,4 @@ pub mod Noting
 pub mod Worklists
 pub mod Readers
 pub mod Adding
+pub mod Numbers

@@ -8,3 +8,6 @@ mod worklist;
 
 pub use least::solve;
 pub use system::System;
+
+#[cfg(test)]
+mod tests;
