@@ -76,7 +76,12 @@ fn text_of(alloc: Global, fields: &[u8]) -> Result<Vec<u8>, AllocError> {
 }
 
 /// Whether a byte is strange outside the literals, behind the columns of the lines before.
-fn has_strange(alloc: Global, fields: &[u8], label: &[u8], part: &[u8]) -> Result<bool, AllocError> {
+fn has_strange(
+    alloc: Global,
+    fields: &[u8],
+    label: &[u8],
+    part: &[u8],
+) -> Result<bool, AllocError> {
     let mut before = Vec::from_slice(alloc, fields)?;
     let mut strange = label.iter().any(|b| is_strange(*b));
     for byte in part {
@@ -93,12 +98,18 @@ fn label_of(part: &[u8]) -> Option<u32> {
     for byte in part {
         if byte.is_ascii_digit() {
             digits = true;
-            value = value.saturating_mul(10).saturating_add((*byte - b'0') as u32);
+            value = value
+                .saturating_mul(10)
+                .saturating_add((*byte - b'0') as u32);
         } else if *byte != b' ' {
             return None;
         }
     }
-    if digits && value == 0 { None } else { Some(value) }
+    if digits && value == 0 {
+        None
+    } else {
+        Some(value)
+    }
 }
 
 /// Tells the statement in progress.
