@@ -100,7 +100,7 @@ fn all_word(part: &[u8]) -> bool
 }
 
 /// Whether bytes are a letter and at most 30 letters, digits or `_` behind it, all in capitals.
-fn is_name(word: &[u8]) -> bool
+pub fn is_name(word: &[u8]) -> bool
     ensures { result ≡ n.is_name word.now }
 {
     let Some((first, others)) = word.split_first() else {

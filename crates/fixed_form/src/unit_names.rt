@@ -4,8 +4,8 @@ ghost use Rattle.std.specs.Bool.{MatchBool};
 ghost use Rattle.fixed_form.specs.Heads as h;
 ghost use Rattle.fixed_form.specs.UnitNames as u;
 
-use super::words::{behind_word, is_name, word_run};
-use f77_tree::{List, Name};
+use super::words::{behind_word, word_run};
+use f77_tree::{List, Name, is_name};
 use std::alloc::{AllocError, Global};
 
 /// The byte behind the name at the front, and the text behind that byte.

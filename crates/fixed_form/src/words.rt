@@ -1,7 +1,6 @@
 //! Words.
-ghost use Rattle.std.specs.Prelude.{◌≡◌, ◌∷◌, ◌++◌, MatchOption};
+ghost use Rattle.std.specs.Prelude.{◌≡◌, ◌++◌, MatchOption};
 ghost use Rattle.std.specs.Bool.{MatchBool};
-ghost use Rattle.std.specs.List.{list_all};
 ghost use Rattle.f77_tree.specs.Names as n;
 ghost use Rattle.fixed_form.specs.Heads as h;
 ghost use Rattle.fixed_form.specs.Words as w;
@@ -16,22 +15,6 @@ fn is_letter(b: u8) -> bool
     ensures { result ≡ n.is_letter b }
 {
     b >= b'A' && b <= b'Z'
-}
-
-fn all_word(part: &[u8]) -> bool
-    ensures { result ≡ list_all n.is_word part.now }
-{
-    part.iter().all(|b| is_word(*b))
-}
-
-/// Whether bytes are a letter and at most 30 letters, digits or `_` behind it, all in capitals.
-pub fn is_name(word: &[u8]) -> bool
-    ensures { result ≡ n.is_name word.now }
-{
-    let Some((first, others)) = word.split_first() else {
-        return false;
-    };
-    is_letter(*first) && word.len() <= 31 && all_word(others)
 }
 
 /// How many letters, digits and `_` stand at the front.
