@@ -1,14 +1,12 @@
 -- Queues of nodes: what waits after a node is added or taken, and in a range.
 use Rattle.std.specs.Prelude.{◌≡◌, ◌≢◌, ℕ, ◌+◌, ◌<◌, ◌≤◌, Bool, true, false, ◌||◌, List, [], ◌∷◌, ◌++◌, All, fold, length, nat_eq, slice_index_or, if◌then◌else◌, replicate, refl}
-use Rattle.std.specs.List.{list_any, range_with_len, IsDistinct, AllByRecursion}
-use Rattle.std.proofs.Common.{zero, suc, ap, sym, subst, ◌∙◌, arith, set, length-set, get_or, length-append, inl, inr, add-one}
+use Rattle.std.specs.List.{range_with_len, IsDistinct, AllByRecursion}
+use Rattle.std.proofs.Common.{zero, suc, ap, sym, ◌∙◌, arith, set, length-set, length-append, inl, inr, add-one}
 use Rattle.std.proofs.lemmas.Bool.{cases_eq, true≢false, or_cases}
 use Rattle.std.proofs.lemmas.Bool.Decides.{nat_tests}
 use Rattle.std.proofs.lemmas.Cmp.{nat_eq_equiv}
-use Rattle.std.proofs.lemmas.Grind.{common_steps}
 use Rattle.std.proofs.lemmas.List.{get_or-set_same, get_or-set_other, get_or-replicate, length-replicate}
 use Rattle.std.proofs.lemmas.List.Elements.{All-push, All-tail, All-nil}
-use Rattle.std.proofs.lemmas.List.Folds.{list_any-append}
 use Rattle.std.proofs.lemmas.Map.Keys.{IsDistinct-push, IsDistinct-head, IsDistinct-tail}
 use Rattle.fix_solver.specs.Worklists.{waits, with_node, IsWorklist}
 

@@ -1,5 +1,5 @@
 -- The lists of readers, built node by node.
-use Rattle.std.specs.Prelude.{◌≡◌, ℕ, ◌+◌, ◌<◌, Bool, true, false, ◌&&◌, ◌||◌, List, [], ◌∷◌, ◌++◌, All, length, sum_by, nat_eq, slice_index_or, refl}
+use Rattle.std.specs.Prelude.{◌≡◌, ℕ, ◌+◌, ◌<◌, false, List, [], ◌∷◌, ◌++◌, All, length, sum_by, slice_index_or, refl}
 use Rattle.std.specs.List.{range_with_len}
 use Rattle.std.proofs.Common.{suc, ap, sym, subst, ◌∙◌, arith, set, length-set, inl, inr}
 use Rattle.std.proofs.lemmas.Bool.{cases_eq}

@@ -1,5 +1,5 @@
 -- The loop of the solver: values below the least solution rise until no equation waits.
-use Rattle.std.specs.Prelude.{◌≡◌, ◌≢◌, ℕ, ◌+◌, ◌<◌, ◌≤◌, Bool, true, false, ◌||◌, IsTrue, List, [], ◌∷◌, ◌++◌, All, fold, length, map, nat_eq, slice_index_or, refl}
+use Rattle.std.specs.Prelude.{◌≡◌, ◌≢◌, ℕ, ◌+◌, ◌<◌, ◌≤◌, Bool, false, IsTrue, List, [], ◌∷◌, ◌++◌, All, fold, length, map, slice_index_or, refl}
 use Rattle.std.specs.List.{range_with_len}
 use Rattle.std.proofs.Common.{ap, sym, subst, ◌∙◌, arith, set, length-set, length-append, append_assoc, inl, inr}
 use Rattle.std.proofs.lemmas.Bool.{cases_eq, true≢false}

@@ -1,6 +1,6 @@
 -- Sums over lists of readers.
-use Rattle.std.specs.Prelude.{◌≡◌, ◌≢◌, ℕ, ◌+◌, ◌<◌, ◌≤◌, List, [], ◌∷◌, ◌++◌, length, sum_by, slice_index_or, refl}
-use Rattle.std.proofs.Common.{zero, suc, ap, sym, subst, ◌∙◌, arith, set}
+use Rattle.std.specs.Prelude.{◌≡◌, ℕ, ◌+◌, ◌<◌, ◌≤◌, List, [], ◌∷◌, ◌++◌, length, sum_by, slice_index_or, refl}
+use Rattle.std.proofs.Common.{zero, suc, ap, subst, ◌∙◌, arith, set}
 use Rattle.std.proofs.lemmas.List.Sums.{sum_by-cons, sum_by_push}
 use Rattle.fix_solver.specs.Readers.{weigh}
 

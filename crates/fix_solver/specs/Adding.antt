@@ -1,5 +1,5 @@
 -- What a list of readers has after a node was added to the lists of some sources.
-use Rattle.std.specs.Prelude.{◌≡◌, ℕ, ◌+◌, ◌<◌, Bool, ◌&&◌, ◌||◌, List, All, length, sum_by, nat_eq, slice_index_or}
+use Rattle.std.specs.Prelude.{◌≡◌, ℕ, ◌+◌, ◌<◌, ◌&&◌, ◌||◌, List, All, length, sum_by, nat_eq, slice_index_or}
 use Rattle.fix_solver.specs.Worklists.{waits}
 use Rattle.fix_solver.specs.Readers.{weigh}
 

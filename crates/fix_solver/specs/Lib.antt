@@ -3,4 +3,12 @@ pub mod Noting
 pub mod Worklists
 pub mod Readers
 pub mod Adding
-pub mod Numbers
+pub mod Graphs
+pub mod Gathering
+pub mod GatheringLaws
+pub mod Reachability
+pub mod ReachabilityLaws
+pub mod Constants
+pub mod ConstantLaws
+pub mod Shortest
+pub mod ShortestLaws

@@ -1,6 +1,5 @@
 -- For each node the nodes that read it.
 use Rattle.std.specs.Prelude.{◌≡◌, ℕ, ◌+◌, ◌<◌, List, [], ◌∷◌, All, length, sum_by, slice_index_or}
-use Rattle.std.specs.List.{range_with_len}
 use Rattle.std.proofs.Common.{suc}
 use Rattle.fix_solver.specs.Worklists.{waits}
 use Rattle.fix_solver.specs.Systems.{edge_sum}

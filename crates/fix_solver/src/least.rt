@@ -1,4 +1,4 @@
-ghost use Rattle.std.specs.Prelude.{◌≡◌, ℕ, List, ◌+◌, ◌++◌, All, length, map, IfOk, OnOk};
+ghost use Rattle.std.specs.Prelude.{◌≡◌, List, ◌+◌, ◌++◌, All, length, map, IfOk, OnOk};
 ghost use Rattle.std.specs.List.{range_with_len};
 ghost use Rattle.fix_solver.specs.Systems.{IsSolution, IsBelow, IsOrderly, edge_sum};
 ghost use Rattle.fix_solver.specs.Noting.{NotesEvaluations};
@@ -20,6 +20,7 @@ pub fn solve<S: System, T: Tally>(
     analysis: u8,
     tally: &mut T,
 ) -> Result<Vec<S::Value>, AllocError>
+    ensures known { OnOk result (S.is_system system.now) }
     ensures solution { IfOk result (λ values. IsSolution S.Value.is_value (S.fits system.now) (S.nodes system.now) (S.evaluate system.now) values.items) }
     ensures least { IfOk result (λ values. (others : _) → IsSolution S.Value.is_value (S.fits system.now) (S.nodes system.now) (S.evaluate system.now) others → IsBelow S.Value.leq (S.nodes system.now) values.items others) }
     ensures notes { NotesEvaluations (λ n. (Kind.Evaluate analysis, S.name system.now n)) (S.nodes system.now) (S.nodes system.now + edge_sum (λ m. S.rank system.now m S.Value.bottom) (S.nodes system.now) (S.sources system.now)) (T.notes tally.old) (T.notes tally.new) }

@@ -1,4 +1,4 @@
-use Rattle.std.proofs.Common.{◌≡◌, ℕ, ◌<◌, Vec, ◌∙◌, sym, arith}
+use Rattle.std.proofs.Common.{ℕ, ◌<◌, Vec, ◌∙◌, sym}
 use Rattle.std.specs.declared.alloc.Global.{Global}
 use Rattle.fix_solver.proofs.Reading.{readers_start, readers_more}
 use Rattle.fix_solver.proofs.readers.readers_of.Goals as goal
