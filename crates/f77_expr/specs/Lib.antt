@@ -1,0 +1,11 @@
+pub mod Best
+pub mod Depth
+pub mod Fronts
+pub mod Grammar
+pub mod Kinds
+pub mod Laws
+pub mod Lexing
+pub mod Longest
+pub mod OneReading
+pub mod Runs
+pub mod Spelling
