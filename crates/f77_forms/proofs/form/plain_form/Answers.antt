@@ -1,0 +1,5 @@
+use Rattle.f77_forms.proofs.FormTables.{found_kind}
+use Rattle.f77_forms.proofs.form.plain_form.Goals as goal
+
+pub returns : goal.returns
+returns c = found_kind c.statement_kind.result c.kind_form.result c.statement_kind.ensures c.kind_form.ensures
