@@ -1,0 +1,9 @@
+mod Deciding
+mod Firsts
+mod Contexts
+mod Texts
+mod Showing
+mod Standing
+mod Headings
+mod Finishing
+mod Endings

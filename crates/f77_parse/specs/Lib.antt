@@ -1,0 +1,10 @@
+pub mod Context
+pub mod Earliest
+pub mod Limits
+pub mod Marks
+pub mod Order
+pub mod Parsed
+pub mod Progress
+pub mod Shown
+pub mod Statements
+pub mod UnitFaults
