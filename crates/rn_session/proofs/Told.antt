@@ -6,8 +6,7 @@ use Rattle.std.proofs.Math.Nat.{le_of_mul-le-mul_right}
 use Rattle.std.proofs.lemmas.Bool.{cases_lt}
 use Rattle.run_model.specs.Runs.{Run, Going, Finished, UndefinedAt, Wrong, text_of, Begins}
 use Rattle.thin_form.specs.declared.statement.Statement.{Statement}
-use Rattle.thin_form.specs.Texts.{text_bytes}
-use Rattle.fixed_form.specs.Lines.{lines_of}
+use Rattle.rn_session.specs.Texts.{text_bytes}
 use Rattle.rv_machine.specs.declared.outcome.Outcome.{Outcome}
 use Rattle.rv_machine.specs.declared.outcome.Outcome.TheVariants.{Running, Halted, Trap}
 use Rattle.rv_machine.specs.Machine.{State, run, output}
@@ -87,10 +86,10 @@ module _ (bytes : List ℕ) (s : State) (started : StartsOn bytes s) (steps : �
       go (UndefinedAt step cause out) e h = absurd (defined reach (subst IsUndefined (sym e) tt))
       go Wrong e h = absurd (subst HasEnded e h)
 
-  few : (run steps s).outcome ≡ Running → steps < 64 + 32 * text_bytes (lines_of bytes)
-  few running = go (cases_lt steps (64 + 32 * text_bytes (lines_of bytes)))
+  few : (run steps s).outcome ≡ Running → steps < 64 + 32 * text_bytes started.made.text.units
+  few running = go (cases_lt steps (64 + 32 * text_bytes started.made.text.units))
     where
-      go : (steps < 64 + 32 * text_bytes (lines_of bytes)) ⊎ (64 + 32 * text_bytes (lines_of bytes) ≤ steps) → steps < 64 + 32 * text_bytes (lines_of bytes)
+      go : (steps < 64 + 32 * text_bytes started.made.text.units) ⊎ (64 + 32 * text_bytes started.made.text.units ≤ steps) → steps < 64 + 32 * text_bytes started.made.text.units
       go (inl l) = l
       go (inr l) = absurd (started.made.bound [] s started.loads steps l running)
 
@@ -119,7 +118,7 @@ module _ (bytes : List ℕ) (s : State) (started : StartsOn bytes s) (steps : �
           let w = sent (λ f. let z : StepsSpent ≡ WriteFault = sym spent ∙ f in cc) in
           subst (λ x. SaysOfSource x steps bytes old new) (sym spent) (record {
             body = body;
-            thin = started.made.thin;
+            text = started.made.text;
             out = output steps s;
             more = w.0;
             wrote = w.1;
@@ -131,7 +130,7 @@ module _ (bytes : List ℕ) (s : State) (started : StartsOn bytes s) (steps : �
           let ended : status ≡ Done = e ∙ ap status_at r in
           subst (λ x. SaysOfSource x steps bytes old new) (sym ended) (record {
             body = body;
-            thin = started.made.thin;
+            text = started.made.text;
             status = k;
             out = output steps s;
             wrote = subst (λ o. Appends old new (output steps s ++ behind (output steps s) (line_at o))) r (done ended);
@@ -141,7 +140,7 @@ module _ (bytes : List ℕ) (s : State) (started : StartsOn bytes s) (steps : �
       go (Trap pc cause) r e =
           subst (λ x. SaysOfSource x steps bytes old new) (sym (e ∙ ap status_at r)) (record {
             body = body;
-            thin = started.made.thin;
+            text = started.made.text;
             steps = reach;
             undefined = started.made.agrees.trapped [] s started.loads steps pc cause r;
           })

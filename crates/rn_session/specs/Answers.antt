@@ -8,9 +8,8 @@ use Rattle.rn_ports.specs.declared.ports.Kind.TheVariants.{Compile}
 use Rattle.f77_tree.specs.declared.fault.SourceFault.{SourceFault}
 use Rattle.f77_tree.specs.declared.fault.Refused.{Refused}
 use Rattle.f77_tree.specs.declared.fault.Refused.TheVariants.{Fault, OutOfMemory as Starved}
-use Rattle.fixed_form.specs.Lines.{lines_of}
 use Rattle.thin_form.specs.declared.statement.Statement.{Statement}
-use Rattle.thin_form.specs.Texts.{IsThin, IsThinFault, text_bytes}
+use Rattle.rn_session.specs.Texts.{IsThinText, IsTextFault, text_bytes}
 use Rattle.thin_code.specs.Meaning.{Source}
 use Rattle.thin_code.specs.Agreement.{Agrees, EndsWithin, IsOrderly}
 use Rattle.rv_machine.specs.Start.{Loads}
@@ -24,10 +23,10 @@ use Rattle.rn_session.specs.Replies.{Reply, run_reply, fault_reply, MayEnd}
 -- statement texts; the program itself ends with status 0 or never.
 pub record IsFileOf (bytes file : List ℕ) : Type 0 where
   pub body : List Statement
-  pub thin : IsThin (lines_of bytes) body
+  pub text : IsThinText bytes body
   pub orderly : (input : List ℤ) (n : ℕ) → IsOrderly (Source body input n)
   pub agrees : Agrees body file
-  pub bound : EndsWithin file (64 + 32 * text_bytes (lines_of bytes))
+  pub bound : EndsWithin file (64 + 32 * text_bytes text.units)
 
 -- the greatest number of bytes of an input
 abbrev pub input_limit : ℕ
@@ -49,11 +48,11 @@ pub record IsRunOf (steps : ℕ) (bytes : List ℕ) (reply : Reply) : Type 0 whe
   pub starts : StartsOn bytes start
   pub replied : reply ≡ run_reply steps start
 
--- What `one STEPS` may reply to an input: the fault of a long one, that of a text that isn't thin, or the run of a file.
+-- What `one STEPS` may reply to an input: the fault of a long one, that of a text that isn't a thin program, or the run of a file.
 pub data MayReply (limit steps : ℕ) (left : Option (List ℕ)) (reply : Reply) : Type 0 where
   too_long : IfSome left (λ bytes. limit < length bytes) → reply ≡ fault_reply (long_fault limit) → MayReply limit steps left reply
   faulty : (bytes : List ℕ) → IfSome left (λ known. bytes ≡ known) → length bytes ≤ limit →
-      (fault : SourceFault) → IsThinFault fault (lines_of bytes) → reply ≡ fault_reply fault → MayReply limit steps left reply
+      (fault : SourceFault) → IsTextFault fault bytes → reply ≡ fault_reply fault → MayReply limit steps left reply
   ran : (bytes : List ℕ) → IfSome left (λ known. bytes ≡ known) → length bytes ≤ limit → IsRunOf steps bytes reply → MayReply limit steps left reply
 
 -- What `one STEPS` may answer to these words and this input, and the text of that answer.

@@ -1,4 +1,6 @@
 pub mod Words
+pub mod Texts
+pub mod Made
 pub mod Statuses
 pub mod Replies
 pub mod Sources

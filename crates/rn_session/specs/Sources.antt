@@ -2,9 +2,7 @@
 use Rattle.std.specs.Prelude.{◌≡◌, ℕ, ◌+◌, ◌*◌, ◌<◌, List, [], ◌++◌, codes, decimal}
 use Rattle.std.specs.Io.KnownBytes.{Appends}
 use Rattle.std.specs.declared.option.Option.{Option}
-use Rattle.fixed_form.specs.Lines.{lines_of}
 use Rattle.thin_form.specs.declared.statement.Statement.{Statement}
-use Rattle.thin_form.specs.Texts.{IsThin, text_bytes}
 use Rattle.run_model.specs.Runs.{Finished, Begins, text_of}
 use Rattle.thin_code.specs.Meaning.{Source}
 use Rattle.thin_code.specs.Sizes.{steps_each, words_each}
@@ -12,6 +10,7 @@ use Rattle.thin_code.specs.Agreement.{IsUndefined}
 use Rattle.rn_session.specs.declared.status.Status.{Status}
 use Rattle.rn_session.specs.declared.status.Status.TheVariants.{Ok as Done, StepsSpent, Trapped}
 use Rattle.rn_session.specs.Replies.{behind}
+use Rattle.rn_session.specs.Texts.{IsThinText, text_bytes}
 
 -- The program meets no undefined action, whatever number of steps it is given.
 abbrev pub IsDefined : List Statement → Type 0
@@ -25,7 +24,7 @@ pub record Finishes (body : List Statement) (status : ℕ) (out : List ℕ) : Ty
 -- The sink got an output and `ended K`. Where the program is defined that is its whole output, and K is 0, its status.
 pub record RanToTheEnd (bytes : List ℕ) (old new : Option (List ℕ)) : Type 0 where
   pub body : List Statement
-  pub thin : IsThin (lines_of bytes) body
+  pub text : IsThinText bytes body
   pub status : ℕ
   pub out : List ℕ
   pub wrote : Appends old new (out ++ behind out (codes "ended " ++ decimal status ++ codes "\n"))
@@ -37,18 +36,18 @@ pub record RanToTheEnd (bytes : List ℕ) (old new : Option (List ℕ)) : Type 0
 -- and below n * W + 2 where this one ends at step n.
 pub record RanOutOfSteps (steps : ℕ) (bytes : List ℕ) (old new : Option (List ℕ)) : Type 0 where
   pub body : List Statement
-  pub thin : IsThin (lines_of bytes) body
+  pub text : IsThinText bytes body
   pub out : List ℕ
   pub more : List ℕ
   pub wrote : Appends old new (out ++ more)
   pub begins : IsDefined body → Begins out (text_of (Source body [] ((steps + 1) * steps_each body)))
-  pub few : steps < 64 + 32 * text_bytes (lines_of bytes)
+  pub few : steps < 64 + 32 * text_bytes text.units
   pub late : (n status : ℕ) (ended : List ℕ) → Source body [] n ≡ Finished status ended → steps < n * words_each body + 2
 
 -- The program meets an undefined action.
 pub record RanIntoATrap (bytes : List ℕ) : Type 0 where
   pub body : List Statement
-  pub thin : IsThin (lines_of bytes) body
+  pub text : IsThinText bytes body
   pub steps : ℕ
   pub undefined : IsUndefined (Source body [] steps)
 

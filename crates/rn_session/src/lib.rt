@@ -14,4 +14,6 @@ pub use status::Status;
 pub use top::{LIMIT, rn_top};
 
 #[cfg(test)]
+mod against;
+#[cfg(test)]
 mod tests;

@@ -1,29 +1,64 @@
 //! From a text to a machine at the start of its file.
-ghost use Rattle.std.specs.Prelude.{◌≡◌, ℕ, ◌++◌, [], IfOk, IfErr, OnOk, OnErr};
-ghost use Rattle.fixed_form.specs.Lines.{lines_of};
-ghost use Rattle.thin_form.specs.Texts.{Explains};
+ghost use Rattle.std.specs.Prelude.{◌≡◌, ℕ, ◌++◌, ◌≤◌, [], IfOk, IfErr, OnOk, OnErr};
+ghost use Rattle.std.specs.List.{All};
+ghost use Rattle.f77_tree.specs.Ends.{EndsOnce};
+ghost use Rattle.f77_parse.specs.Statements.{EndsUnit};
+ghost use Rattle.thin_form.specs.Programs.{IsProgram, IsSmall};
 ghost use Rattle.elf_file.specs.Shape.{NoShape};
 ghost use Rattle.rv_machine.specs.Start.{Loads};
 ghost use Rattle.rv_machine.specs.Kept.{state_of};
 ghost use Rattle.rn_session.specs.Answers.{IsFileOf, StartsOn, NotedAt, compiled};
+ghost use Rattle.rn_session.specs.Texts.{AreTrees, Explains};
+ghost use Rattle.rn_session.specs.Made as m;
 
-use fixed_form::Refused;
+use f77_parse::parse_unit;
+use f77_tree::{List, Refused, Unit};
+use fixed_form::{UnitText, read_units};
 use rn_ports::{Kind, Tally};
 use rv_machine::{ElfRefused, Machine};
 use std::alloc::{AllocError, Global};
 use thin_code::program_file;
-use thin_form::read_thin;
+use thin_form::{Statement, thin_program};
+
+/// The trees of units, or the fault of the first unit that has one.
+fn parse_units(alloc: Global, units: &[UnitText]) -> Result<List<Unit>, Refused>
+    requires ended { All EndsUnit units.now }
+    ensures trees { IfOk result (λ trees. AreTrees units.now trees) }
+    ensures few { IfOk result (λ trees. All m.HasFewTokens trees) }
+    ensures ends { IfOk result (λ trees. All EndsOnce trees) }
+    ensures fault { IfErr result (λ e. m.ExplainsAmong e units.now) }
+{
+    let mut trees = List::new(alloc);
+    for unit in units {
+        let tree = parse_unit(alloc, unit)?;
+        trees.push(tree)?;
+    }
+    Ok(trees)
+}
+
+/// The statements of the thin program that a text is, or the fault of the text.
+pub fn thin_body(alloc: Global, text: &[u8]) -> Result<List<Statement>, Refused>
+    ensures text { IfOk result (λ body. m.IsSizedText text.now body) }
+    ensures program { IfOk result (λ body. IsProgram body) }
+    ensures small { IfOk result (λ body. IsSmall body) }
+    ensures fault { IfErr result (λ e. Explains e text.now) }
+{
+    let units = read_units(alloc, text)?;
+    let trees = parse_units(alloc, units.as_slice())?;
+    let body = thin_program(alloc, trees.as_slice())?;
+    Ok(body)
+}
 
 /// The bytes of an ELF file that does what the thin program does that the text is. One Compile of MAIN is noted where
 /// the file was made, and nothing else.
 pub fn thin_file<T: Tally>(alloc: Global, text: &[u8], tally: &mut T) -> Result<Vec<u8>, Refused>
     ensures file { IfOk result (λ file. IsFileOf text.now file.items) }
-    // The fault is that of the first line that no thin text has.
-    ensures refused { IfErr result (λ refused. Explains refused (lines_of text.now)) }
+    // The fault is that of the reading, else that of the first unit that has one, else that of a text that isn't thin.
+    ensures refused { IfErr result (λ refused. Explains refused text.now) }
     ensures noted { OnOk result (T.notes tally.new ≡ T.notes tally.old ++ compiled) }
     ensures silent { OnErr result (T.notes tally.new ≡ T.notes tally.old) }
 {
-    let body = match read_thin(alloc, text) {
+    let body = match thin_body(alloc, text) {
         Ok(body) => body,
         Err(refused) => return Err(refused),
     };
@@ -51,7 +86,7 @@ fn started(alloc: Global, file: &[u8]) -> Result<Machine, AllocError>
 /// The machine at the start of the file of a text.
 pub fn machine_of<T: Tally>(alloc: Global, text: &[u8], tally: &mut T) -> Result<Machine, Refused>
     ensures starts { IfOk result (λ machine. StartsOn text.now (state_of machine)) }
-    ensures refused { IfErr result (λ refused. Explains refused (lines_of text.now)) }
+    ensures refused { IfErr result (λ refused. Explains refused text.now) }
     ensures noted { OnOk result (T.notes tally.new ≡ T.notes tally.old ++ compiled) }
     ensures silent { IfErr result (λ refused. NotedAt refused (T.notes tally.old) (T.notes tally.new)) }
 {

@@ -1,6 +1,7 @@
 use super::*;
-use fixed_form::{List, Refused};
+use f77_tree::{List, Refused};
 use rn_ports::{FreeGate, Kind, ListTally, MemKeeper, MemSink, MemSource};
+use std::alloc::{AllocError, Global};
 use std::test::Fail;
 
 // What a call came to: the number of its status, the text that was written, and the tally.
@@ -72,8 +73,6 @@ fn replies(rt: HostRuntime) -> Result<(), Fail> {
             "fault 7 MAIN line 1\n",
         ),
         ("one 1000", branch, 1, "fault 7 MAIN line 1\n"),
-        ("one 1000", "      I = 1\n", 1, "fault 7 MAIN line 2\n"),
-        ("one 1000", "", 1, "fault 7 MAIN line 1\n"),
         ("one 0", ONE, 13, "steps spent\n"),
         ("", ONE, 2, "bad words\n"),
         ("one", ONE, 2, "bad words\n"),
@@ -88,6 +87,134 @@ fn replies(rt: HostRuntime) -> Result<(), Fail> {
         assert_eq!(rt; seen.text.as_slice(), text.as_bytes());
         assert_eq!(rt; seen.status, status, "at {text}");
     }
+    Ok(())
+}
+
+// Texts that are refused: the first fault of the reading, else of a unit, else fault 27, else that of the thin rule.
+#[test]
+fn refuses_texts(rt: HostRuntime) -> Result<(), Fail> {
+    let table = [
+        ("", "fault 27 - line 0\n"),
+        ("C one\n\n", "fault 27 - line 0\n"),
+        ("      I = 1\n", "fault 5 - line 1\n"),
+        (
+            "      I = 1\n      J =\t1\n      END\n",
+            "fault 1 - line 2\n",
+        ),
+        (
+            "      I =\n      GO TO 7\n      END\n",
+            "fault 6 MAIN line 1\n",
+        ),
+        (
+            "      I = 1\n      GO TO 7\n      END\n",
+            "fault 7 MAIN line 2\n",
+        ),
+        (
+            "      I = 1\n      IF (I .EQ. 0) I = 1\n      END\n",
+            "fault 7 MAIN line 2\n",
+        ),
+        (
+            "      I = 1\n      END\n      PROGRAM Q\n      J = (\n      K = )\n      END\n",
+            "fault 6 Q line 2\n",
+        ),
+        (
+            "      I = '\n      J = 9223372036854775808\n      END\n      PROGRAM Q\n      K = (\n      END\n",
+            "fault 10 MAIN line 1\n",
+        ),
+        (
+            "      I = 1\n      END\n      J = 1\n      END\n",
+            "fault 7 MAIN line 1\n",
+        ),
+        ("   10 I = 1\n      END\n", "fault 7 MAIN line 1\n"),
+        ("      PROGRAM P\n      END\n", "fault 7 P line 1\n"),
+        ("      K = -1\n      END\n", "fault 7 MAIN line 1\n"),
+        ("      X = 1\n      END\n", "fault 7 MAIN line 1\n"),
+        ("      PRINT *, 'AB\n      END\n", "fault 10 MAIN line 1\n"),
+    ];
+    for (input, text) in table {
+        let input = Vec::from_slice(rt.alloc(), input.as_bytes())?;
+        let seen = call(rt, "one 1000", input, &[], &[])?;
+        assert_eq!(rt; seen.text.as_slice(), text.as_bytes(), "wanted {text}");
+        assert_eq!(rt; seen.status, 1, "at {text}");
+    }
+    Ok(())
+}
+
+// A statement may be continued, and any byte may stand in a literal.
+#[test]
+fn asks_for_forms_of_statements(rt: HostRuntime) -> Result<(), Fail> {
+    let table = [
+        (
+            "     0I = 1\n     1    + 2\n      PRINT *, I\n      END\n",
+            " 3\nended 0\n",
+        ),
+        ("      PRINT *, 'a\tb'\n      END\n", " a\tb\nended 0\n"),
+        (
+            "      PRINT *, 'IT''S', '', 'X' 'Y'\n      END\nC more\n",
+            " IT'S  X'Y\nended 0\n",
+        ),
+    ];
+    for (input, text) in table {
+        let input = Vec::from_slice(rt.alloc(), input.as_bytes())?;
+        let seen = call(rt, "one 1000", input, &[], &[])?;
+        assert_eq!(rt; seen.text.as_slice(), text.as_bytes(), "wanted {text}");
+        assert_eq!(rt; seen.status, 0, "at {text}");
+    }
+    Ok(())
+}
+
+// A head with so many dummies, and END.
+fn head(alloc: Global, count: usize) -> Result<Vec<u8>, AllocError> {
+    let mut text = Vec::from_slice(alloc, b"      SUBROUTINE S(A")?;
+    for at in 1..count {
+        if at % 20 == 0 {
+            text.extend_from_slice(b"\n     1 ")?;
+        }
+        text.extend_from_slice(b",A")?;
+    }
+    text.extend_from_slice(b")\n      END\n")?;
+    Ok(text)
+}
+
+#[test]
+fn limits_dummies(rt: HostRuntime) -> Result<(), Fail> {
+    let seen = call(rt, "one 1000", head(rt.alloc(), 63)?, &[], &[])?;
+    assert_eq!(rt; seen.text.as_slice(), b"fault 7 S line 1\n".as_slice());
+    let seen = call(rt, "one 1000", head(rt.alloc(), 64)?, &[], &[])?;
+    assert_eq!(rt;
+        seen.text.as_slice(),
+        b"fault 37 S line 1 limit 63\n".as_slice()
+    );
+    Ok(())
+}
+
+// 322 statements of 62 tokens, one of so many more, and END.
+fn long_program(alloc: Global, last: &[u8]) -> Result<Vec<u8>, AllocError> {
+    let mut text = Vec::new(alloc);
+    text.extend_from_slice(b"      I=1\n")?;
+    for _ in 0..322 {
+        text.extend_from_slice(
+            b"      PRINT*,I,I,I,I,I,I,I,I,I,I,I,I,I,I,I,I,I,I,I,I,I,I,I,I,I,I,I,I,I,I\n",
+        )?;
+    }
+    text.extend_from_slice(last)?;
+    text.extend_from_slice(b"      END\n")?;
+    Ok(text)
+}
+
+// 3 and 322 * 62 tokens, those of the last statement and one of END: 20,000 and 20,001.
+#[test]
+fn limits_tokens(rt: HostRuntime) -> Result<(), Fail> {
+    let alloc = rt.alloc();
+    let text = long_program(alloc, b"      PRINT*,I,I,I,I,I,I,I,I,I,I,I,I,I,I,I\n")?;
+    let seen = call(rt, "one 0", text, &[], &[])?;
+    assert_eq!(rt; seen.text.as_slice(), b"steps spent\n".as_slice());
+    let text = long_program(alloc, b"      I=I+I+I+I+I+I+I+I+I+I+I+I+I+I+I+I\n")?;
+    let seen = call(rt, "one 0", text, &[], &[])?;
+    assert_eq!(rt;
+        seen.text.as_slice(),
+        b"fault 37 MAIN line 325 limit 20000\n".as_slice()
+    );
     Ok(())
 }
 
@@ -135,7 +262,7 @@ fn spends_steps_within_a_line(rt: HostRuntime) -> Result<(), Fail> {
     Ok(())
 }
 
-// One line of comment, so that END is missing in line 2.
+// One line of comment, so that there is no unit.
 #[test]
 fn takes_an_input_at_the_limit(rt: HostRuntime) -> Result<(), Fail> {
     let seen = call(
@@ -145,7 +272,7 @@ fn takes_an_input_at_the_limit(rt: HostRuntime) -> Result<(), Fail> {
         &[],
         &[],
     )?;
-    assert_eq!(rt; seen.text.as_slice(), b"fault 7 MAIN line 2\n".as_slice());
+    assert_eq!(rt; seen.text.as_slice(), b"fault 27 - line 0\n".as_slice());
     assert_eq!(rt; seen.status, 1);
     Ok(())
 }
@@ -198,7 +325,7 @@ fn makes_files(rt: HostRuntime) -> Result<(), Fail> {
     assert!(rt; file.as_slice().starts_with(b"\x7fELF"));
     let made = thin_file(alloc, b"      I = 1\n", &mut tally);
     let refused = made.err().ok_or("a text without END")?;
-    assert_eq!(rt; place_of(&refused), (7, 2));
+    assert_eq!(rt; place_of(&refused), (5, 1));
     assert_eq!(rt; tally.count(), 1, "the fault isn't noted");
     Ok(())
 }

@@ -9,7 +9,7 @@ use Rattle.thin_form.specs.declared.statement.Item.{Item}
 use Rattle.thin_form.specs.declared.statement.Item.TheVariants.{Value, Text}
 use Rattle.thin_form.specs.declared.statement.Statement.{Statement}
 use Rattle.thin_form.specs.declared.statement.Statement.TheVariants.{Assign, Print, End}
-use Rattle.thin_form.specs.Programs.{term_size, item_size, size_of}
+use Rattle.thin_form.specs.Programs.{tokens_of, term_size, item_size, size_of}
 use Rattle.rv_code.specs.Pieces.{byte_code, show_code, line_code, operation_code}
 use Rattle.thin_code.specs.Sizes.{item_weight, weight_of}
 use Rattle.thin_code.specs.Code.{Frame, term_code, operation, addend_code, addends_code, item_code, items_code, record_code, sum_code, statement_code, body_code}
@@ -134,3 +134,50 @@ statement_size End = omega arith
 pub body_size : (xs : List Statement) → body_words xs ≤ 32 * sum_by size_of xs
 body_size [] = omega arith
 body_size (x ∷ xs) = rw (sum_by-cons size_of x xs) (omega (arith, statement_size x, body_size xs))
+
+-- ---- and by the bytes
+
+items_bytes : (items : List Item) → items_words items ≤ 8 * sum_by (λ i. 1 + item_size i) items
+items_bytes [] = omega arith
+items_bytes (Text bytes ∷ items) = rw (sum_by-cons (λ i. 1 + item_size i) (Text bytes) items) (omega (arith, items_bytes items))
+items_bytes (Value (Variable name) ∷ items) = rw (sum_by-cons (λ i. 1 + item_size i) (Value (Variable name)) items) (omega (arith, items_bytes items))
+items_bytes (Value (Integer value) ∷ items) = rw (sum_by-cons (λ i. 1 + item_size i) (Value (Integer value)) items) (omega (arith, items_bytes items))
+
+term_bytes : (t : Term) → term_words t + 1 ≤ 8 * (1 + term_size t)
+term_bytes (Variable name) = omega arith
+term_bytes (Integer value) = omega arith
+
+term_first : (t : Term) → term_words t ≤ 5 + 8 * term_size t
+term_first (Variable name) = omega arith
+term_first (Integer value) = omega arith
+
+addends_bytes : (more : List Addend) → addends_words more ≤ 8 * sum_by (λ a. 1 + term_size a.term) more
+addends_bytes [] = omega arith
+addends_bytes (a ∷ more) = rw (sum_by-cons (λ a. 1 + term_size a.term) a more) (omega (arith, term_bytes a.term, addends_bytes more))
+
+statement_bytes : (x : Statement) → statement_words x ≤ 8 * size_of x
+statement_bytes (Assign target first more) = omega (arith, term_first first, addends_bytes more)
+statement_bytes (Print []) = omega arith
+statement_bytes (Print (i ∷ items)) = omega (arith, items_bytes (i ∷ items))
+statement_bytes End = omega arith
+
+pub body_bytes : (xs : List Statement) → body_words xs ≤ 8 * sum_by size_of xs
+body_bytes [] = omega arith
+body_bytes (x ∷ xs) = rw (sum_by-cons size_of x xs) (omega (arith, statement_bytes x, body_bytes xs))
+
+addends_tokens : (more : List Addend) → length more ≤ sum_by (λ a. 1 + term_size a.term) more
+addends_tokens [] = omega arith
+addends_tokens (a ∷ more) = rw (sum_by-cons (λ a. 1 + term_size a.term) a more) (omega (arith, addends_tokens more))
+
+items_tokens : (items : List Item) → length items ≤ sum_by (λ i. 1 + item_size i) items
+items_tokens [] = omega arith
+items_tokens (i ∷ items) = rw (sum_by-cons (λ i. 1 + item_size i) i items) (omega (arith, items_tokens items))
+
+statement_tokens : (x : Statement) → tokens_of x ≤ 2 + 2 * size_of x
+statement_tokens (Assign target first more) = omega (arith, addends_tokens more)
+statement_tokens (Print items) = omega (arith, items_tokens items)
+statement_tokens End = omega arith
+
+pub body_tokens : (xs : List Statement) → sum_by tokens_of xs ≤ 2 * length xs + 2 * sum_by size_of xs
+body_tokens [] = omega arith
+body_tokens (x ∷ xs) = rw (sum_by-cons tokens_of x xs, sum_by-cons size_of x xs) (omega (arith, statement_tokens x, body_tokens xs))

@@ -5,7 +5,7 @@ use Rattle.std.proofs.lemmas.List.Sums.{sum_by-le}
 use Rattle.std.proofs.lemmas.List.Elements.{All-push}
 use Rattle.thin_form.specs.declared.statement.Statement.{Statement}
 use Rattle.thin_form.specs.declared.statement.Statement.TheVariants.{End}
-use Rattle.thin_form.specs.Programs.{size_of, IsProgram}
+use Rattle.thin_form.specs.Programs.{size_of, IsProgram, IsSmall}
 use Rattle.rv_machine.specs.Machine.{State}
 use Rattle.rv_machine.specs.Start.{start, Loads}
 use Rattle.rv_code.specs.Pieces.{jump_code}
@@ -17,10 +17,10 @@ use Rattle.thin_code.specs.Code.{Frame, body_code, program_code, bytes_of, frame
 use Rattle.thin_code.proofs.Effects.{IsSound}
 use Rattle.thin_code.proofs.Acting.{Ready}
 use Rattle.thin_code.proofs.Agreeing.{Begun}
-use Rattle.thin_code.proofs.Counts.{body_words, length-body, body_size}
+use Rattle.thin_code.proofs.Counts.{body_words, length-body, body_bytes, body_tokens}
 use Rattle.thin_code.proofs.Ranges.{program_fits}
 use Rattle.thin_code.proofs.Stands.{stand, length-bytes_of}
-use Rattle.thin_code.proofs.Placed.{sound, few_names, few_statements}
+use Rattle.thin_code.proofs.Placed.{sound, few_names}
 
 -- ---- sizes
 
@@ -43,19 +43,19 @@ frame-data_at body =
     ap (λ n. data_at (4 * n)) (length-program (record { names = names_of body; data_at = 0 }) body) ∙ sym (ap data_at (length-code body))
 
 pub record Small (body : List Statement) : Type 0 where
-  pub words : body_words body ≤ 32 * (20000 * 66)
-  pub names : length (names_of body) ≤ 20000
+  pub words : body_words body ≤ 8 * (20000 * 1320)
+  pub names : length (names_of body) ≤ 2 * 20000 + 2 * (20000 * 1320)
 
-pub small : (body : List Statement) → IsProgram body → Small body
+pub small : (body : List Statement) → IsSmall body → Small body
 small body p =
-    let t = p.few in
+    let f = p.few in
     let n = few_names body in
-    let l = few_statements body in
-    let z = sum_by-le size_of 66 body p.short in
-    let w = body_size body in
-    record { words = omega (arith, t, l, z, w); names = omega (arith, t, n) }
+    let t = body_tokens body in
+    let z = sum_by-le size_of 1320 body p.short in
+    let w = body_bytes body in
+    record { words = omega (arith, f, z, w); names = omega (arith, f, n, t, z) }
 
-pub shaped : (body : List Statement) → IsProgram body → Shape (file_of body) (code_of body) [] (memory_size body)
+pub shaped : (body : List Statement) → IsSmall body → Shape (file_of body) (code_of body) [] (memory_size body)
 unfolding file_of
 shaped body p =
     let b = small body p in
@@ -72,10 +72,10 @@ shaped body p =
     }
 
 -- the machine that starts on the file
-starts : (body : List Statement) → IsProgram body → (input : List ℤ) → Ready (frame_of body) (program_code (frame_of body) body) 65536 (start (code_of body) [] (memory_size body) input)
-starts body p input =
+starts : (body : List Statement) → IsProgram body → IsSmall body → (input : List ℤ) → Ready (frame_of body) (program_code (frame_of body) body) 65536 (start (code_of body) [] (memory_size body) input)
+starts body p q input =
     let f = frame_of body in
-    let b = small body p in
+    let b = small body q in
     let c = length-code body in
     let e = frame-data_at body in
     let sounds : All (IsSound f) body = sound_body body p in
@@ -101,13 +101,13 @@ starts body p input =
         let front = sound (frame_of body) p.front (ap names_of p.ends) p.plain in
         subst (All (IsSound (frame_of body))) (sym p.ends) (All-push (IsSound (frame_of body)) p.front End front tt)
 
-pub begun : (body : List Statement) (p : IsProgram body) (input : List ℤ) (s : State) → Loads (file_of body) input s → Begun (frame_of body) p.front s
-begun body p input s h =
+pub begun : (body : List Statement) (p : IsProgram body) → IsSmall body → (input : List ℤ) (s : State) → Loads (file_of body) input s → Begun (frame_of body) p.front s
+begun body p q input s h =
     let f = frame_of body in
-    let same = shape_unique (file_of body) h.code h.file h.memory (code_of body) [] (memory_size body) h.shape (shaped body p) in
+    let same = shape_unique (file_of body) h.code h.file h.memory (code_of body) [] (memory_size body) h.shape (shaped body q) in
     let e : s ≡ start (code_of body) [] (memory_size body) input = h.stands ∙ (λ i. start (same.same_code i) (same.same_file i) (same.same_memory i) input) in
     record {
-      ready = subst (λ b. Ready f (program_code f b) 65536 s) p.ends (subst (Ready f (program_code f body) 65536) (sym e) (starts body p input));
+      ready = subst (λ b. Ready f (program_code f b) 65536 s) p.ends (subst (Ready f (program_code f body) 65536) (sym e) (starts body p q input));
       plain = p.plain;
       sound = sound f p.front (ap names_of p.ends) p.plain;
     }

@@ -2,7 +2,7 @@
 ghost use Rattle.std.specs.Prelude.{◌+◌, ◌*◌, ◌^◌, ◌<◌};
 ghost use Rattle.indexmap.specs.IndexSet.{index_set_len};
 
-use fixed_form::Name;
+use f77_tree::Name;
 use indexmap::IndexSet;
 
 /// The variables, and the address of their first storage unit.

@@ -6,7 +6,5 @@ mod names;
 mod pieces;
 mod program;
 mod statements;
-#[cfg(test)]
-mod tests;
 
 pub use program::program_file;

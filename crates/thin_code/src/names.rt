@@ -5,7 +5,7 @@ ghost use Rattle.thin_code.specs.Layout.{term_names, item_names, statement_names
 ghost use Rattle.thin_code.specs.Seen.{address_in};
 
 use super::area::Area;
-use fixed_form::Name;
+use f77_tree::Name;
 use indexmap::IndexSet;
 use std::alloc::{AllocError, Global};
 use thin_form::{Addend, Item, Statement, Term};

@@ -1,7 +1,7 @@
 //! The executable of a program.
 ghost use Rattle.std.specs.Prelude.{◌≡◌, ℕ, ℤ, List, ◌+◌, ◌*◌, ◌^◌, ◌<◌, ◌≤◌, length, IfOk, sum_by};
 ghost use Rattle.indexmap.specs.IndexSet.{index_set_len};
-ghost use Rattle.thin_form.specs.Programs.{IsProgram, size_of};
+ghost use Rattle.thin_form.specs.Programs.{IsProgram, IsSmall, size_of};
 ghost use Rattle.thin_code.specs.Layout.{names_of};
 ghost use Rattle.thin_code.specs.Code.{file_of};
 ghost use Rattle.thin_code.specs.Meaning.{Source};
@@ -16,7 +16,8 @@ use thin_form::Statement;
 
 /// An executable that agrees with the program, and that has ended after 64 instructions and 32 for each byte of the statements.
 pub fn program_file(alloc: Global, body: &[Statement]) -> Result<Vec<u8>, AllocError>
-    requires { IsProgram body.now }
+    requires program { IsProgram body.now }
+    requires small { IsSmall body.now }
     ensures agrees { IfOk result (λ file. Agrees body.now file.items) }
     // The run of a program is never stuck, and ends with status 0.
     ensures orderly { (input : List ℤ) (n : ℕ) → IsOrderly (Source body.now input n) }
@@ -27,7 +28,7 @@ pub fn program_file(alloc: Global, body: &[Statement]) -> Result<Vec<u8>, AllocE
 
 // The code doesn't get longer or shorter by the address of the data, so it is made once to be measured.
 fn linked(alloc: Global, body: &[Statement]) -> Result<Vec<u8>, AllocError>
-    requires { IsProgram body.now }
+    requires { IsSmall body.now }
     ensures { IfOk result (λ file. file.items ≡ file_of body.now) }
 {
     let names = names_of(alloc, body)?;

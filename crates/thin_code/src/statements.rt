@@ -10,7 +10,7 @@ use super::pieces::{
     push_byte, push_constant, push_halt, push_jump, push_line, push_load, push_operation,
     push_save, push_show,
 };
-use fixed_form::Name;
+use f77_tree::Name;
 use std::alloc::{AllocError, Global};
 use thin_form::{Addend, Item, Statement, Term};
 

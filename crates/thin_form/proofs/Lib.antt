@@ -1,9 +1,5 @@
-pub mod Faults
-pub mod Literals
-pub mod OneForm
-pub mod Reading
-pub mod Sequences
-pub mod Shapes
-pub mod Steps
-pub mod Values
-pub mod Words
+mod Parts
+pub mod Zips
+mod Terms
+mod Statements
+mod Units

@@ -1,8 +1,12 @@
--- The forms of the statements of thin programs, as relations between a statement text and what it spells.
-use Rattle.std.specs.Prelude.{◌≡◌, ℕ, ◌≤◌, ◌<◌, pos, Bool, true, ◌||◌, ◌&&◌, ◌==◌, nat_le, if◌then◌else◌, List, [], ◌∷◌, ◌++◌, length, flat_map, codes}
-use Rattle.std.specs.List.{list_all}
-use Rattle.fixed_form.specs.Lines.{Text}
-use Rattle.fixed_form.specs.Cards.{is_digit, value_of}
+-- The forms of thin statements, as relations between trees and what programs are made of.
+use Rattle.std.specs.Prelude.{◌≡◌, ℕ, ℤ, pos, Bool, true, false, ◌&&◌, nat_le, List, [], ◌∷◌, ◌++◌}
+use Rattle.std.specs.List.{AllZip}
+use Rattle.f77_tree.specs.declared.expr.Op.{Op}
+use Rattle.f77_tree.specs.declared.expr.Op.TheVariants as op
+use Rattle.f77_tree.specs.declared.expr.Expr.{Expr}
+use Rattle.f77_tree.specs.declared.expr.Expr.TheVariants as e
+use Rattle.f77_tree.specs.declared.form.Form.{Form}
+use Rattle.f77_tree.specs.declared.form.Form.TheVariants as form
 use Rattle.thin_form.specs.declared.statement.Sign.{Sign}
 use Rattle.thin_form.specs.declared.statement.Sign.TheVariants.{Plus, Minus}
 use Rattle.thin_form.specs.declared.statement.Addend.{Addend}
@@ -13,60 +17,48 @@ use Rattle.thin_form.specs.declared.statement.Item.TheVariants as kind
 use Rattle.thin_form.specs.declared.statement.Statement.{Statement}
 use Rattle.thin_form.specs.declared.statement.Statement.TheVariants.{Assign, Print, End}
 
--- letters, digits and `_`
-abbrev pub is_word : ℕ → Bool
-is_word b = (nat_le 65 b && nat_le b 90) || is_digit b || b == 95
+-- The name begins with a letter from I to N, as those of INTEGER variables do where no type is given.
+abbrev pub is_integer_name : List ℕ → Bool
+is_integer_name [] = false
+is_integer_name (first ∷ others) = nat_le 73 first && nat_le first 78
 
--- I to N, with which the names of INTEGER variables begin
-abbrev pub is_integer_letter : ℕ → Bool
-is_integer_letter b = nat_le 73 b && nat_le b 78
+-- not below 0
+pub record IsNatural (value : ℤ) : Type 0 where
+  pub n : ℕ
+  pub is : value ≡ pos n
 
-pub record IsName (text : Text) : Type 0 where
-  pub first : ℕ
-  pub others : Text
-  pub whole : text ≡ first ∷ others
-  pub letter : is_integer_letter first ≡ true
-  pub word : list_all is_word others ≡ true
-  pub short : length text ≤ 31
+-- a term is such a name, or an integer
+pub data IsTermOf (tree : Expr) (term : Term) : Type 0 where
+  variable : (name : List ℕ) → tree ≡ e.Scalar name → is_integer_name name ≡ true → term ≡ Variable name → IsTermOf tree term
+  integer : (value : ℤ) → tree ≡ e.Int value → IsNatural value → term ≡ Integer value → IsTermOf tree term
 
-pub record IsInteger (text : Text) : Type 0 where
-  pub filled : 0 < length text
-  pub digits : list_all is_digit text ≡ true
-  pub fits : value_of text ≤ 9223372036854775807
+abbrev pub op_of : Sign → Op
+op_of Plus = op.Add
+op_of Minus = op.Sub
 
--- a term is a name or an integer
-pub data SpellsTerm (text : Text) (term : Term) : Type 0 where
-  variable : IsName text → term ≡ Variable text → SpellsTerm text term
-  integer : IsInteger text → term ≡ Integer (pos (value_of text)) → SpellsTerm text term
+-- a term, or terms joined by `+` and `-` from the left
+pub data IsSumOf : Expr → Term → List Addend → Type 0 where
+  alone : {tree : Expr} {first : Term} {more : List Addend} → IsTermOf tree first → more ≡ [] → IsSumOf tree first more
+  joined : {tree a b : Expr} {first : Term} {before more : List Addend} (last : Addend) →
+      tree ≡ e.Binary (op_of last.sign) a b → IsSumOf a first before → IsTermOf b last.term → more ≡ before ++ last ∷ [] → IsSumOf tree first more
 
-abbrev pub sign_byte : Sign → ℕ
-sign_byte Plus = 43
-sign_byte Minus = 45
+-- an item is a term or a literal
+pub data IsItemOf (tree : Expr) (item : Item) : Type 0 where
+  value : (term : Term) → IsTermOf tree term → item ≡ kind.Value term → IsItemOf tree item
+  literal : (bytes : List ℕ) → tree ≡ e.Text bytes → item ≡ kind.Text bytes → IsItemOf tree item
 
--- any number of terms, each behind its sign
-pub data SpellsMore : Text → List Addend → Type 0 where
-  no_more : {text : Text} {all : List Addend} → text ≡ [] → all ≡ [] → SpellsMore text all
-  one_more : {text piece rest : Text} {all others : List Addend} (addend : Addend) →
-      text ≡ sign_byte addend.sign ∷ (piece ++ rest) → SpellsTerm piece addend.term → SpellsMore rest others → all ≡ addend ∷ others → SpellsMore text all
+-- an assignment of a sum to a variable
+pub record IsAssignmentOf (target value : Expr) (statement : Statement) : Type 0 where
+  pub name : List ℕ
+  pub variable : target ≡ e.Scalar name
+  pub integer : is_integer_name name ≡ true
+  pub first : Term
+  pub more : List Addend
+  pub sum : IsSumOf value first more
+  pub made : statement ≡ Assign name first more
 
--- an apostrophe within a literal is doubled
-abbrev pub doubled : ℕ → Text
-doubled b = if b == 39 then 39 ∷ 39 ∷ [] else b ∷ []
-
--- an item is a term, or a literal between apostrophes
-pub data SpellsItem (text : Text) (item : Item) : Type 0 where
-  value : (term : Term) → SpellsTerm text term → item ≡ kind.Value term → SpellsItem text item
-  literal : (bytes : Text) → text ≡ 39 ∷ (flat_map doubled bytes ++ 39 ∷ []) → item ≡ kind.Text bytes → SpellsItem text item
-
--- any number of items, each behind a comma
-pub data SpellsItems : Text → List Item → Type 0 where
-  no_items : {text : Text} {all : List Item} → text ≡ [] → all ≡ [] → SpellsItems text all
-  one_item : {text piece rest : Text} {all others : List Item} (item : Item) →
-      text ≡ 44 ∷ (piece ++ rest) → SpellsItem piece item → SpellsItems rest others → all ≡ item ∷ others → SpellsItems text all
-
--- The statement text is an assignment, a PRINT or END.
-pub data IsForm (text : Text) (statement : Statement) : Type 0 where
-  assign : (target piece rest : Text) (first : Term) (more : List Addend) →
-      text ≡ target ++ 61 ∷ (piece ++ rest) → IsName target → SpellsTerm piece first → SpellsMore rest more → statement ≡ Assign target first more → IsForm text statement
-  print : (rest : Text) (items : List Item) → text ≡ codes "PRINT*" ++ rest → SpellsItems rest items → statement ≡ Print items → IsForm text statement
-  end : text ≡ codes "END" → statement ≡ End → IsForm text statement
+-- The tree is an assignment, a PRINT of items or END.
+pub data IsStatementOf (tree : Form) (statement : Statement) : Type 0 where
+  assign : (target value : Expr) → tree ≡ form.Assign target value → IsAssignmentOf target value statement → IsStatementOf tree statement
+  print : (trees : List Expr) (items : List Item) → tree ≡ form.Print trees → AllZip IsItemOf trees items → statement ≡ Print items → IsStatementOf tree statement
+  end : tree ≡ form.End → statement ≡ End → IsStatementOf tree statement

@@ -1,5 +1,5 @@
 pub mod Forms
-pub mod Fronts
+pub mod Lacks
 pub mod Programs
 pub mod Progress
-pub mod Texts
+pub mod Thin

@@ -1,63 +1,42 @@
--- How far a reader has come in the lines of a text.
-use Rattle.std.specs.Prelude.{◌≡◌, ℕ, ◌+◌, ◌≤◌, ◌<◌, Bool, true, false, List, [], ◌∷◌, ◌++◌, Some, length, min, sum_by, codes}
-use Rattle.std.specs.List.{All}
+-- What is found in one of the units.
+use Rattle.std.specs.Prelude.{◌≡◌, ℕ, List, [], ◌∷◌, ◌++◌, Some}
+use Rattle.std.specs.List.{AllZip}
+use Rattle.f77_tree.specs.declared.fault.SourceFault.{SourceFault}
 use Rattle.f77_tree.specs.declared.fault.Refused.{Refused}
 use Rattle.f77_tree.specs.declared.fault.Refused.TheVariants.{Fault, OutOfMemory}
-use Rattle.fixed_form.specs.Lines.{Text, lines_of}
+use Rattle.f77_tree.specs.declared.unit.Stmt.{Stmt}
+use Rattle.f77_tree.specs.declared.unit.Unit.{Unit as SourceUnit}
 use Rattle.thin_form.specs.declared.statement.Statement.{Statement}
-use Rattle.thin_form.specs.declared.statement.Statement.TheVariants.{Assign, Print, End}
-use Rattle.thin_form.specs.Programs.{tokens_of, size_of, IsPlain, IsShort}
-use Rattle.thin_form.specs.Texts.{Spells, IsStatementLine, text_bytes}
+use Rattle.thin_form.specs.Lacks.{Lacks}
+use Rattle.thin_form.specs.Thin.{IsThinStatement, fault_at}
 
-abbrev pub is_end : Statement → Bool
-is_end (Assign target first more) = false
-is_end (Print items) = false
-is_end End = true
+-- the refusal of this statement, or want of memory
+abbrev pub RefusesAt : Refused → List ℕ → Stmt → Type 0
+RefusesAt (Fault fault) unit at = fault ≡ fault_at unit at
+RefusesAt OutOfMemory unit at = Unit {0}
 
-pub record NoStatement (line : Text) : Type 0 where
-  pub not : (statement : Statement) → IsStatementLine line statement → ⊥
+-- the first statement of the unit that isn't thin
+pub record IsUnitFault (fault : SourceFault) (unit : SourceUnit) : Type 0 where
+  pub before : List Stmt
+  pub at : Stmt
+  pub behind : List Stmt
+  pub cut : unit.statements ≡ before ++ at ∷ behind
+  pub body : List Statement
+  pub thin : AllZip IsThinStatement before body
+  pub not : Lacks (IsThinStatement at)
+  pub is : fault ≡ fault_at unit.name at
 
--- END is still to come, and there is room for its token
-pub record IsOpen (body : List Statement) (tokens : ℕ) : Type 0 where
-  pub plain : All IsPlain body
-  pub short : All IsShort body
-  pub few : tokens < 20000
+abbrev pub ExplainsUnit : Refused → SourceUnit → Type 0
+ExplainsUnit (Fault fault) unit = IsUnitFault fault unit
+ExplainsUnit OutOfMemory unit = Unit {0}
 
--- END has come
-pub record IsClosed (body : List Statement) (tokens : ℕ) : Type 0 where
-  pub front : List Statement
-  pub ends : body ≡ front ++ End ∷ []
-  pub plain : All IsPlain front
-  pub short : All IsShort body
-  pub few : tokens ≤ 20000
+-- the refusal of the first statement of a unit
+pub record IsFirstFault (fault : SourceFault) (unit : SourceUnit) : Type 0 where
+  pub at : Stmt
+  pub behind : List Stmt
+  pub cut : unit.statements ≡ at ∷ behind
+  pub is : fault ≡ fault_at unit.name at
 
-abbrev pub StateIs : Bool → List Statement → ℕ → Type 0
-StateIs false = IsOpen
-StateIs true = IsClosed
-
--- the statements of lines of which some begin with these
-pub record GoesOn (body : List Statement) (more : List Text) (whole : List Statement) : Type 0 where
-  pub others : List Statement
-  pub cut : whole ≡ body ++ others
-  pub spells : Spells more others
-
--- These lines have these statements.
-pub record Stands (seen : List Text) (body : List Statement) (tokens : ℕ) (ended : Bool) : Type 0 where
-  pub spells : Spells seen body
-  pub only : (more : List Text) (whole : List Statement) → Spells (seen ++ more) whole → GoesOn body more whole
-  pub counted : tokens ≡ sum_by tokens_of body
-  pub sized : sum_by size_of body ≤ text_bytes seen
-  pub state : StateIs ended body tokens
-
--- a refusal at this line, or for want of memory
-abbrev pub RefusesAt : Refused → ℕ → Type 0
-RefusesAt (Fault fault) at = (fault.number ≡ 7) × (fault.place.unit ≡ Some (codes "MAIN")) × (fault.limit ≡ 0) × (fault.place.line ≡ min at 4294967295)
-RefusesAt OutOfMemory at = Unit {0}
-
--- A reader has read some lines of the text, and the rest is still to come.
-pub record Gone (text rest : Text) (number : ℕ) (body : List Statement) (tokens : ℕ) (ended : Bool) : Type 0 where
-  pub seen : List Text
-  pub whole : lines_of text ≡ seen ++ lines_of rest
-  pub numbered : number ≡ length seen
-  pub taken : number + length rest ≤ length text
-  pub stands : Stands seen body tokens ended
+abbrev pub RefusesUnit : Refused → SourceUnit → Type 0
+RefusesUnit (Fault fault) unit = IsFirstFault fault unit
+RefusesUnit OutOfMemory unit = Unit {0}

@@ -1,197 +1,154 @@
-//! The forms of statement texts.
-ghost use Rattle.std.specs.Prelude.{◌≡◌, ◌∷◌, codes, IfOk, MatchOption};
-ghost use Rattle.std.specs.Bool.{MatchBool};
+//! The forms of thin statements.
+ghost use Rattle.std.specs.Prelude.{◌≡◌, ◌<◌, pos, IfOk, IfSome, MatchOption};
+ghost use Rattle.std.specs.List.{All, AllZip};
+ghost use Rattle.thin_form.specs.declared.statement.Term.TheVariants as t;
 ghost use Rattle.thin_form.specs.Forms as f;
-ghost use Rattle.thin_form.specs.Fronts as s;
-ghost use Rattle.thin_form.specs.declared.statement.Statement.{Statement};
+ghost use Rattle.thin_form.specs.Lacks.{Lacks};
+ghost use Rattle.thin_form.specs.Programs as p;
 
-use super::statement::{Addend, Item, Sign, Statement};
-use super::term::{front_term, is_name, word_run};
-use fixed_form::{List, Name};
+use super::statement::{Addend, Item, Sign, Statement, Term};
+use f77_tree::{Expr, Form, List, Name, Op};
 use std::alloc::{AllocError, Global};
 
-/// The text behind a byte that stands at the front.
-fn behind_byte(text: &[u8], b: u8) -> Option<&[u8]>
-    ensures { MatchOption result (s.Lacks text.now b) (λ rest. text.now ≡ b ∷ rest.now) }
+/// Whether a name is one of INTEGER variables.
+fn is_integer_name(name: &Name) -> bool
+    ensures { result ≡ f.is_integer_name name.now }
 {
-    let Some((first, rest)) = text.split_first() else {
-        return None;
+    let Some((first, _)) = name.as_bytes().split_first() else {
+        return false;
     };
-    if *first == b { Some(rest) } else { None }
+    *first >= b'I' && *first <= b'N'
 }
 
-fn sign_of(b: u8) -> Option<Sign>
-    ensures { MatchOption result (s.NoSign b) (λ sign. f.sign_byte sign ≡ b) }
+fn sign_of(op: Op) -> Option<Sign>
+    ensures { MatchOption result (Lacks (λ sign. op ≡ f.op_of sign)) (λ sign. op ≡ f.op_of sign) }
 {
-    match b {
-        b'+' => Some(Sign::Plus),
-        b'-' => Some(Sign::Minus),
+    match op {
+        Op::Add => Some(Sign::Plus),
+        Op::Sub => Some(Sign::Minus),
         _ => None,
     }
 }
 
-/// A term behind its sign, and the text behind it.
-fn front_addend(alloc: Global, text: &[u8]) -> Result<Option<(Addend, &[u8])>, AllocError>
-    ensures { IfOk result (λ found. MatchOption found (s.NoFrontAddend text.now) (λ x. s.FrontAddend text.now x.0 x.1.now)) }
+/// The term of an integer without a sign.
+fn integer(value: &i64) -> Option<Term>
+    ensures term { MatchOption result (Lacks (λ n. value.now ≡ pos n)) (λ term. f.IsNatural value.now × (term ≡ t.Integer value.now)) }
+    ensures plain { IfSome result (λ term. p.IsTerm term) }
 {
-    let Some((first, behind)) = text.split_first() else {
-        return Ok(None);
-    };
-    let Some(sign) = sign_of(*first) else {
-        return Ok(None);
-    };
-    let Some((term, rest)) = front_term(alloc, behind)? else {
-        return Ok(None);
-    };
-    Ok(Some((Addend { sign, term }, rest)))
+    if *value < 0 {
+        return None;
+    }
+    Some(Term::Integer(*value))
 }
 
-/// The terms behind their signs that a whole text is.
-fn more_terms(alloc: Global, text: &[u8]) -> Result<Option<List<Addend>>, AllocError>
-    ensures { IfOk result (λ found. MatchOption found (s.NoMore text.now) (λ all. f.SpellsMore text.now all)) }
+/// The term that an expression is.
+fn term(alloc: Global, tree: &Expr) -> Result<Option<Term>, AllocError>
+    ensures term { IfOk result (λ found. MatchOption found (Lacks (f.IsTermOf tree.now)) (λ term. f.IsTermOf tree.now term)) }
+    ensures plain { IfOk result (λ found. IfSome found (λ term. p.IsTerm term)) }
 {
-    let mut all = List::new(alloc);
-    let mut rest = text;
-    'turn: while !rest.is_empty() {
-        let Some((addend, after)) = front_addend(alloc, rest)? else {
+    match tree {
+        Expr::Scalar(name) => {
+            if !is_integer_name(name) {
+                return Ok(None);
+            }
+            Ok(Some(Term::Variable(name.copy(alloc)?)))
+        }
+        Expr::Int(value) => Ok(integer(value)),
+        _ => Ok(None),
+    }
+}
+
+/// The first term of the sum that an expression is, and the terms behind it.
+fn sum(alloc: Global, tree: &Expr) -> Result<Option<(Term, List<Addend>)>, AllocError>
+    ensures sum { IfOk result (λ found. MatchOption found (Lacks (λ (x : Term × List Addend). f.IsSumOf tree.now x.0 x.1)) (λ x. f.IsSumOf tree.now x.0 x.1)) }
+    ensures plain { IfOk result (λ found. IfSome found (λ x. p.IsTerm x.0 × All (λ a. p.IsTerm a.term) x.1)) }
+{
+    let Expr::Binary(op, before, last) = tree else {
+        let Some(first) = term(alloc, tree)? else {
             return Ok(None);
         };
-        all.push(addend)?;
-        rest = after;
-    }
-    Ok(Some(all))
-}
-
-/// The next byte of a literal, and the text behind it.
-fn front_byte(text: &[u8]) -> Option<(u8, &[u8])>
-    ensures { MatchOption result (s.NoFrontByte text.now) (λ x. s.FrontByte text.now x.0 x.1.now) }
-{
-    let Some((first, rest)) = text.split_first() else {
-        return None;
+        return Ok(Some((first, List::new(alloc))));
     };
-    if *first != b'\'' {
-        return Some((*first, rest));
-    }
-    let Some((second, rest)) = rest.split_first() else {
-        return None;
-    };
-    if *second == b'\'' {
-        Some((b'\'', rest))
-    } else {
-        None
-    }
-}
-
-/// The bytes of a literal behind its first apostrophe, and the text behind the last.
-fn literal(alloc: Global, text: &[u8]) -> Result<Option<(List<u8>, &[u8])>, AllocError>
-    ensures { IfOk result (λ found. MatchOption found (s.NeverCloses text.now) (λ x. s.Closes text.now x.0 x.1.now)) }
-{
-    let mut bytes = List::new(alloc);
-    let mut rest = text;
-    'byte: while let Some((b, after)) = front_byte(rest) {
-        bytes.push(b)?;
-        rest = after;
-    }
-    match behind_byte(rest, b'\'') {
-        Some(after) => Ok(Some((bytes, after))),
-        None => Ok(None),
-    }
-}
-
-/// An item behind its comma, and the text behind it.
-fn front_item(alloc: Global, text: &[u8]) -> Result<Option<(Item, &[u8])>, AllocError>
-    ensures { IfOk result (λ found. MatchOption found (s.NoFrontItem text.now) (λ x. s.FrontItem text.now x.0 x.1.now)) }
-{
-    let Some(behind) = behind_byte(text, b',') else {
+    let Some(sign) = sign_of(*op) else {
         return Ok(None);
     };
-    let Some(inside) = behind_byte(behind, b'\'') else {
-        let Some((term, rest)) = front_term(alloc, behind)? else {
-            return Ok(None);
-        };
-        return Ok(Some((Item::Value(term), rest)));
-    };
-    let Some((bytes, rest)) = literal(alloc, inside)? else {
+    let Some((first, mut more)) = sum(alloc, before.get())? else {
         return Ok(None);
     };
-    Ok(Some((Item::Text(bytes), rest)))
+    let Some(term) = term(alloc, last.get())? else {
+        return Ok(None);
+    };
+    more.push(Addend { sign, term })?;
+    Ok(Some((first, more)))
 }
 
-/// The items behind their commas that a whole text is.
-fn items(alloc: Global, text: &[u8]) -> Result<Option<List<Item>>, AllocError>
-    ensures { IfOk result (λ found. MatchOption found (s.NoItems text.now) (λ all. f.SpellsItems text.now all)) }
+fn literal(alloc: Global, bytes: &[u8]) -> Result<List<u8>, AllocError>
+    ensures copy { IfOk result (λ copy. copy ≡ bytes.now) }
+    ensures plain { IfOk result (λ copy. All (λ b. b < 256) copy) }
+{
+    List::from_slice(alloc, bytes)
+}
+
+/// The item that an expression is.
+fn item(alloc: Global, tree: &Expr) -> Result<Option<Item>, AllocError>
+    ensures item { IfOk result (λ found. MatchOption found (Lacks (f.IsItemOf tree.now)) (λ item. f.IsItemOf tree.now item)) }
+    ensures plain { IfOk result (λ found. IfSome found (λ item. p.IsItem item)) }
+{
+    if let Expr::Text(bytes) = tree {
+        return Ok(Some(Item::Text(literal(alloc, bytes.as_slice())?)));
+    }
+    let Some(term) = term(alloc, tree)? else {
+        return Ok(None);
+    };
+    Ok(Some(Item::Value(term)))
+}
+
+/// The items that expressions are.
+fn items(alloc: Global, trees: &[Expr]) -> Result<Option<List<Item>>, AllocError>
+    ensures items { IfOk result (λ found. MatchOption found (Lacks (AllZip f.IsItemOf trees.now)) (λ all. AllZip f.IsItemOf trees.now all)) }
+    ensures plain { IfOk result (λ found. IfSome found (λ all. All p.IsItem all)) }
 {
     let mut all = List::new(alloc);
-    let mut rest = text;
-    'turn: while !rest.is_empty() {
-        let Some((item, after)) = front_item(alloc, rest)? else {
+    for tree in trees {
+        let Some(item) = item(alloc, tree)? else {
             return Ok(None);
         };
         all.push(item)?;
-        rest = after;
     }
     Ok(Some(all))
 }
 
-/// The assignment that a text is.
-fn assignment(alloc: Global, text: &[u8]) -> Result<Option<Statement>, AllocError>
-    ensures { IfOk result (λ found. MatchOption found (s.NoAssignment text.now) (λ statement. f.IsForm text.now statement)) }
+/// The assignment of an expression to a target.
+fn assignment(alloc: Global, target: &Expr, value: &Expr) -> Result<Option<Statement>, AllocError>
+    ensures assignment { IfOk result (λ found. MatchOption found (Lacks (f.IsAssignmentOf target.now value.now)) (λ statement. f.IsAssignmentOf target.now value.now statement)) }
+    ensures plain { IfOk result (λ found. IfSome found p.IsPlain) }
 {
-    let (target, rest) = text.split_at(word_run(text));
-    if !is_name(target) {
+    let Expr::Scalar(name) = target else {
+        return Ok(None);
+    };
+    if !is_integer_name(name) {
         return Ok(None);
     }
-    let Some(value) = behind_byte(rest, b'=') else {
+    let Some((first, more)) = sum(alloc, value)? else {
         return Ok(None);
     };
-    let Some((first, behind)) = front_term(alloc, value)? else {
-        return Ok(None);
-    };
-    let Some(more) = more_terms(alloc, behind)? else {
-        return Ok(None);
-    };
-    let target = Name::from_list(List::from_slice(alloc, target)?);
-    Ok(Some(Statement::Assign(target, first, more)))
+    Ok(Some(Statement::Assign(name.copy(alloc)?, first, more)))
 }
 
-/// The text behind `PRINT*`.
-fn behind_print(text: &[u8]) -> Option<&[u8]>
-    ensures { MatchOption result (s.NoPrint text.now) (λ rest. s.FrontPrint text.now rest.now) }
+/// The thin statement that a tree is.
+pub fn statement(alloc: Global, tree: &Form) -> Result<Option<Statement>, AllocError>
+    ensures statement { IfOk result (λ found. MatchOption found (Lacks (f.IsStatementOf tree.now)) (λ statement. f.IsStatementOf tree.now statement)) }
+    ensures plain { IfOk result (λ found. IfSome found (λ statement. p.IsPlainOrEnd statement)) }
 {
-    if text.len() < 6 {
-        return None;
-    }
-    let (word, rest) = text.split_at(6);
-    if word == b"PRINT*".as_slice() {
-        Some(rest)
-    } else {
-        None
+    match tree {
+        Form::Assign(target, value) => assignment(alloc, target, value),
+        Form::Print(trees) => {
+            let Some(all) = items(alloc, trees.as_slice())? else {
+                return Ok(None);
+            };
+            Ok(Some(Statement::Print(all)))
+        }
+        Form::End => Ok(Some(Statement::End)),
+        _ => Ok(None),
     }
 }
-
-fn is_end(text: &[u8]) -> bool
-    ensures { MatchBool result (text.now ≡ codes "END") (text.now ≡ codes "END" → ⊥) }
-{
-    text == b"END".as_slice()
-}
-
-/// The statement that a statement text is.
-pub fn form(alloc: Global, text: &[u8]) -> Result<Option<Statement>, AllocError>
-    ensures { IfOk result (λ found. MatchOption found (s.NoForm text.now) (λ statement. f.IsForm text.now statement)) }
-{
-    if is_end(text) {
-        return Ok(Some(Statement::End));
-    }
-    let Some(rest) = behind_print(text) else {
-        return assignment(alloc, text);
-    };
-    let Some(all) = items(alloc, rest)? else {
-        return Ok(None);
-    };
-    Ok(Some(Statement::Print(all)))
-}
-
-/// A statement text has at most one form.
-pub fn one_form(text: &[u8])
-    ensures { (a b : Statement) → f.IsForm text.now a → f.IsForm text.now b → a ≡ b }
-{}

@@ -1,14 +1,9 @@
-//! The statements of thin programs.
+//! Thin programs: units that are one unit of assignments of sums, PRINT statements and END.
 #![tactic(auto)]
 
 mod forms;
 mod statement;
-mod term;
 mod thin;
 
-pub use forms::{form, one_form};
 pub use statement::{Addend, Item, Sign, Statement, Term};
-pub use thin::read_thin;
-
-#[cfg(test)]
-mod tests;
+pub use thin::thin_program;

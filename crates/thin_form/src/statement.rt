@@ -1,5 +1,5 @@
 //! Statements as trees.
-use fixed_form::{List, Name};
+use f77_tree::{List, Name};
 
 /// A variable, or an integer from 0 to 9223372036854775807.
 #[derive(Drop)]

@@ -1,7 +1,6 @@
 use Rattle.std.proofs.Common.{ℕ, List, Err, refl, sym, ap, ◌∙◌, subst}
-use Rattle.fixed_form.specs.Lines.{lines_of}
 use Rattle.f77_tree.specs.declared.fault.Refused.{Refused}
-use Rattle.thin_form.specs.Texts.{Explains}
+use Rattle.rn_session.specs.Texts.{Explains}
 use Rattle.rn_ports.specs.Causes.{Rose}
 use Rattle.rv_machine.specs.Machine.{run}
 use Rattle.rv_machine.specs.Kept.{state_of}
@@ -31,16 +30,16 @@ pub returns-in-Err-Fault-clause-answer : goal.returns-in-Err-Fault-clause-answer
 returns-in-Err-Fault-clause-answer g c =
     let e = c.refuse_source-in-Err-Fault.ensures in
     let read = c.in-Ok.ensures {u = tt} in
-    let thin = subst (λ (t : List ℕ). Explains c.in-Err-Fault.field-0 (lines_of t)) c.as_slice.ensures.value (c.in-Err-Fault.ensures {u = tt}).refused in
-    let fault = subst (λ (r : Refused). Explains r (lines_of c.in-Ok.text.items)) c.in-Err-Fault.field-0-is thin in
+    let thin = subst (λ (t : List ℕ). Explains c.in-Err-Fault.field-0 t) c.as_slice.ensures.value (c.in-Err-Fault.ensures {u = tt}).refused in
+    let fault = subst (λ (r : Refused). Explains r c.in-Ok.text.items) c.in-Err-Fault.field-0-is thin in
     fault_answered c.in-Some.steps c.in-Err-Fault.fault (sym c.steps.ensures ∙ c.in-Some.is) (faulty c.in-Ok.text.items read.all read.within c.in-Err-Fault.fault fault refl) e.status e.front e.text
 
 pub returns-in-Err-Fault-clause-complete : goal.returns-in-Err-Fault-clause-complete
 returns-in-Err-Fault-clause-complete g c =
     let e = c.refuse_source-in-Err-Fault.ensures in
     let read = c.in-Ok.ensures {u = tt} in
-    let thin = subst (λ (t : List ℕ). Explains c.in-Err-Fault.field-0 (lines_of t)) c.as_slice.ensures.value (c.in-Err-Fault.ensures {u = tt}).refused in
-    let fault = subst (λ (r : Refused). Explains r (lines_of c.in-Ok.text.items)) c.in-Err-Fault.field-0-is thin in
+    let thin = subst (λ (t : List ℕ). Explains c.in-Err-Fault.field-0 t) c.as_slice.ensures.value (c.in-Err-Fault.ensures {u = tt}).refused in
+    let fault = subst (λ (r : Refused). Explains r c.in-Ok.text.items) c.in-Err-Fault.field-0-is thin in
     λ sourced written. fault_complete c.args.words.now c.refuse_source-in-Err-Fault.result c.in-Some.steps c.in-Err-Fault.fault (sym c.steps.ensures ∙ c.in-Some.is)
     (faulty c.in-Ok.text.items read.all read.within c.in-Err-Fault.fault fault refl) e.status
 

@@ -8,10 +8,10 @@ use Rattle.thin_code.proofs.Theorem.{agrees, bounded}
 use Rattle.thin_code.proofs.program.program_file.Goals as goal
 
 pub returns-clause-agrees : goal.returns-clause-agrees
-returns-clause-agrees c = if_ok c.linked.result (λ file e. subst (Agrees c.args.body.now) (sym e) (agrees c.args.body.now c.requires)) c.linked.ensures
+returns-clause-agrees c = if_ok c.linked.result (λ file e. subst (Agrees c.args.body.now) (sym e) (agrees c.args.body.now c.requires.program c.requires.small)) c.linked.ensures
 
 pub returns-clause-bound : goal.returns-clause-bound
-returns-clause-bound c = if_ok c.linked.result (λ file e. subst (λ bytes. EndsWithin bytes (64 + 32 * sum_by size_of c.args.body.now)) (sym e) (bounded c.args.body.now c.requires)) c.linked.ensures
+returns-clause-bound c = if_ok c.linked.result (λ file e. subst (λ bytes. EndsWithin bytes (64 + 32 * sum_by size_of c.args.body.now)) (sym e) (bounded c.args.body.now c.requires.program c.requires.small)) c.linked.ensures
 
 pub returns-clause-orderly : goal.returns-clause-orderly
-returns-clause-orderly c = orderly c.args.body.now c.requires
+returns-clause-orderly c = orderly c.args.body.now c.requires.program

@@ -1,14 +1,11 @@
-use Rattle.std.proofs.Common.{List, ◌++◌, length}
-use Rattle.thin_form.specs.declared.statement.Item.{Item}
-use Rattle.thin_form.specs.Forms.{SpellsItems}
-use Rattle.thin_form.specs.Fronts.{NoItems}
+use Rattle.std.proofs.Common.{List, take}
+use Rattle.std.specs.List.{All, AllZip}
+use Rattle.thin_form.specs.Forms.{IsItemOf}
+use Rattle.thin_form.specs.Programs.{IsItem}
 use Rattle.thin_form.proofs.forms.items.Given as goal
 
-abbrev pub invariant-turn : goal.invariant-turn
-invariant-turn l = record {
-  spells : (others : List Item) → SpellsItems l.rest others → SpellsItems l.text (l.all ++ others);
-  none : NoItems l.rest → NoItems l.text;
+abbrev pub invariant-loop-tree : goal.invariant-loop-tree
+invariant-loop-tree l = record {
+  items : AllZip IsItemOf (take l.tree-index l.trees) l.all;
+  plain : All IsItem l.all;
 }
-
-abbrev pub decreases-turn : goal.decreases-turn
-decreases-turn l = length l.rest

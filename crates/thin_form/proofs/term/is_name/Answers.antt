@@ -1,7 +1,0 @@
-use Rattle.std.proofs.Common.{sym, ◌∙◌}
-use Rattle.thin_form.proofs.Words.{name_test}
-use Rattle.thin_form.proofs.term.is_name.Goals as goal
-
-pub returns-then-word-le31 : goal.returns-then-word-le31
-returns-then-word-le31 c =
-    name_test c.args.word.now c.in-Some.others.now c.in-Some.first.now c.all_word.result (c.in-Some.ensures {u = tt}).cases.0 (sym c.is_integer_letter.ensures ∙ c.if-word-le31.true.0) c.if-word-le31.true.1 c.all_word.ensures
