@@ -1,0 +1,9 @@
+pub mod Passes
+pub mod Ending
+pub mod RangeList
+pub mod Bounds
+pub mod Adding
+pub mod Listing
+pub mod Followers
+pub mod Nodes
+pub mod Checked

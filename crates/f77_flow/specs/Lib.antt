@@ -1,0 +1,10 @@
+pub mod Kinds
+pub mod Labels
+pub mod Blocks
+pub mod Spans
+pub mod Graph
+pub mod Next
+pub mod Tables
+pub mod Progress
+pub mod Adding
+pub mod Checks
