@@ -10,10 +10,10 @@ abbrev pub printed_by : {A : Type 0} → Outcome A → List ℕ
 printed_by (Fine x v) = v.out
 printed_by (Stop r v) = v.out
 
-same : (out : List ℕ) → Begins out out
+pub same : (out : List ℕ) → Begins out out
 same out = record { more = []; whole = sym (append-nil out) }
 
-longer : (a b c : List ℕ) → Begins a b → Begins b c → Begins a c
+pub longer : (a b c : List ℕ) → Begins a b → Begins b c → Begins a c
 longer a b c p q = record { more = p.more ++ q.more; whole = q.whole ∙ ap (λ x. x ++ q.more) p.whole ∙ append_assoc a p.more q.more }
 
 abbrev pub with_more : ℕ → World → World
@@ -27,11 +27,11 @@ Extends k (Stop (Ended e) v) o = o ≡ Stop (Ended e) (with_more k v)
 Extends k (Stop (Undefined c) v) o = o ≡ Stop (Undefined c) (with_more k v)
 Extends k (Stop Stuck v) o = o ≡ Stop Stuck (with_more k v)
 
-grows_then : {A B : Type 0} → (out : List ℕ) (o : Outcome A) (f : A → World → Outcome B) → Begins out (printed_by o) → ((x : A) (v : World) → Begins v.out (printed_by (f x v))) → Begins out (printed_by (then_do o f))
+pub grows_then : {A B : Type 0} → (out : List ℕ) (o : Outcome A) (f : A → World → Outcome B) → Begins out (printed_by o) → ((x : A) (v : World) → Begins v.out (printed_by (f x v))) → Begins out (printed_by (then_do o f))
 grows_then out (Fine x v) f b g = longer out v.out _ b (g x v)
 grows_then out (Stop r v) f b g = b
 
-extends_then : {A B : Type 0} → (k : ℕ) (o o' : Outcome A) (f : A → World → Outcome B) → Extends k o o' → ((x : A) (v : World) → Extends k (f x v) (f x (with_more k v))) → ((x : A) (v : World) → Begins v.out (printed_by (f x v))) → Extends k (then_do o f) (then_do o' f)
+pub extends_then : {A B : Type 0} → (k : ℕ) (o o' : Outcome A) (f : A → World → Outcome B) → Extends k o o' → ((x : A) (v : World) → Extends k (f x v) (f x (with_more k v))) → ((x : A) (v : World) → Begins v.out (printed_by (f x v))) → Extends k (then_do o f) (then_do o' f)
 extends_then k (Fine x v) o' f e x_ g = subst (λ o. Extends k (f x v) (then_do o f)) (sym e) (x_ x v)
 extends_then k (Stop Spent v) o' f e x_ g = grows_then v.out o' f e g
 extends_then k (Stop (Ended z) v) o' f e x_ g = ap (λ o. then_do o f) e
@@ -39,7 +39,7 @@ extends_then k (Stop (Undefined z) v) o' f e x_ g = ap (λ o. then_do o f) e
 extends_then k (Stop Stuck v) o' f e x_ g = ap (λ o. then_do o f) e
 
 module _ (h : Handler) (hg : (s : ℕ) (ds : List Interval) (w : World) → Begins w.out (printed_by (h s ds w))) where
-  play_grows : {A : Type 0} → (a : Act A) (w : World) → Begins w.out (printed_by (play h a w))
+  pub play_grows : {A : Type 0} → (a : Act A) (w : World) → Begins w.out (printed_by (play h a w))
   play_grows (Done x) w = same w.out
   play_grows {A = A} (Get l g) w = at_cell (w.cells l) (λ v. play_grows (g v) w)
     where
@@ -56,7 +56,7 @@ module _ (h : Handler) (hg : (s : ℕ) (ds : List Interval) (w : World) → Begi
   play_grows (Ask s ds g) w = grows_then w.out (h s ds w) (λ r w1. play h (g r) w1) (hg s ds w) (λ r v. play_grows (g r) v)
   play_grows (Fail r) w = same w.out
 
-  turns_grow : {S : Type 0} → (t : S → Act (After S)) (n : ℕ) (s : S) (w : World) → Begins w.out (printed_by (turns h t n s w))
+  pub turns_grow : {S : Type 0} → (t : S → Act (After S)) (n : ℕ) (s : S) (w : World) → Begins w.out (printed_by (turns h t n s w))
   turns_grow t zero s w = same w.out
   turns_grow {S = S} t (suc n) s w = at_tick w.left (turns_grow t n)
     where
@@ -65,7 +65,7 @@ module _ (h : Handler) (hg : (s : ℕ) (ds : List Interval) (w : World) → Begi
       at_tick (suc m) ih = grows_then w.out (play h (t s) (record w { left = m })) _ (play_grows (t s) _) (elim [ Again s ↦ (λ v. ih s v) | Result r ↦ (λ v. same v.out) ])
 
   module _ (k : ℕ) (hx : (s : ℕ) (ds : List Interval) (w : World) → Extends k (h s ds w) (h s ds (with_more k w))) where
-    play_extends : {A : Type 0} → (a : Act A) (w : World) → Extends k (play h a w) (play h a (with_more k w))
+    pub play_extends : {A : Type 0} → (a : Act A) (w : World) → Extends k (play h a w) (play h a (with_more k w))
     play_extends (Done x) w = refl
     play_extends {A = A} (Get l g) w = at_cell (w.cells l) (λ v. play_extends (g v) w)
       where
@@ -85,7 +85,7 @@ module _ (h : Handler) (hg : (s : ℕ) (ds : List Interval) (w : World) → Begi
     play_extends (Fail (Undefined c)) w = refl
     play_extends (Fail Stuck) w = refl
 
-    turns_extend : {S : Type 0} → (t : S → Act (After S)) (n m : ℕ) → n ≤ m → (s : S) (w : World) → Extends k (turns h t n s w) (turns h t m s (with_more k w))
+    pub turns_extend : {S : Type 0} → (t : S → Act (After S)) (n m : ℕ) → n ≤ m → (s : S) (w : World) → Extends k (turns h t n s w) (turns h t m s (with_more k w))
     turns_extend t zero m le s w = turns_grow t m s (with_more k w)
     turns_extend t (suc n) zero le s w = absurd (omega arith)
     turns_extend {S = S} t (suc n) (suc m) le s w = at_tick w.left refl (turns_extend t n m (omega arith))
@@ -108,7 +108,7 @@ module _ (h : Handler) (hg : (s : ℕ) (ds : List Interval) (w : World) → Begi
             extends_fuel (Stop (Undefined z) v) o' x ih = ap (λ o. then_do o (λ a w2. follow a w2 (turns h t m))) x
             extends_fuel (Stop Stuck v) o' x ih = ap (λ o. then_do o (λ a w2. follow a w2 (turns h t m))) x
 
-answers : (n k : ℕ) (o o' : Outcome Answer) → Extends k o o' → RunExtends (answer n o) (answer (n + k) o')
+pub answers : (n k : ℕ) (o o' : Outcome Answer) → Extends k o o' → RunExtends (answer n o) (answer (n + k) o')
 answers n k (Fine x v) o' e = ap (answer (n + k)) e
 answers n k (Stop Spent v) o' e = go o' e
   where

@@ -1,0 +1,14 @@
+pub mod Joins
+pub mod Extend
+pub mod Keeps
+pub mod Terms
+pub mod Turns
+pub mod Sane
+pub mod Examples
+pub mod Calls
+pub mod Sample
+pub mod Trees
+pub mod Goes
+pub mod Places
+pub mod Sites
+pub mod Points

@@ -1,0 +1,12 @@
+pub mod Values
+pub mod Program
+pub mod Expressions
+pub mod Statements
+pub mod Units
+pub mod Terms
+pub mod Resolve
+pub mod Data
+pub mod Source
+pub mod Effects
+pub mod Goes
+pub mod Sites
