@@ -10,6 +10,3 @@ mod unit;
 pub use f77_tree::{Refused, Unit};
 pub use fixed_form::UnitText;
 pub use unit::parse_unit;
-
-#[cfg(test)]
-mod tests;
