@@ -11,7 +11,7 @@ use Rattle.f77_forms.specs.declared.statement_kinds.StatementKind.{StatementKind
 use Rattle.f77_forms.specs.declared.statement_kinds.StatementKind.TheVariants as kind
 use Rattle.f77_forms.specs.Answers.{InTokens}
 use Rattle.f77_forms.specs.Forms.{HasForm, plain, logical_if, KindForm, IsWorded, head, by_word, WordForm}
-use Rattle.f77_forms.specs.HeadForms.{IsHeadForm, IsSubroutine, IsFunction, IsBlock, type_spelling, program, subroutine, function, block, bare, listed, named, nameless}
+use Rattle.f77_forms.specs.HeadForms.{IsHeadForm, IsSubroutine, IsBlock, type_spelling, program, subroutine, function, block, bare, listed, named, nameless}
 use Rattle.f77_forms.specs.Keywords.{behind}
 use Rattle.f77_forms.specs.StatementKinds.{IsKind, closed_if, open_if, equated, worded}
 

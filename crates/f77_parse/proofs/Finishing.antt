@@ -13,18 +13,19 @@ use Rattle.fixed_form.specs.declared.reader.Line.{Line}
 use Rattle.fixed_form.specs.declared.reader.UnitText.{UnitText}
 use Rattle.f77_forms.specs.Forms.{HasForm}
 use Rattle.f77_parse.specs.declared.class.Class.{Class}
-use Rattle.f77_parse.specs.declared.marks.Mark.{Mark}
+use Rattle.fault_marks.specs.declared.marks.Mark.{Mark}
 use Rattle.f77_parse.specs.declared.unit.Progress.{Progress}
 use Rattle.f77_parse.specs.Statements.{HasHead, EndsUnit}
 use Rattle.f77_parse.specs.Order.{HasClass}
-use Rattle.f77_parse.specs.Earliest.{Earliest}
+use Rattle.fault_marks.specs.Earliest.{Earliest}
 use Rattle.f77_parse.specs.Limits.{CountTokens}
-use Rattle.f77_parse.specs.Marks.{IsFirst}
+use Rattle.fault_marks.specs.Marks.{IsFirst}
 use Rattle.f77_parse.specs.Parsed.{IsStatement, IsUnit, IsFaultless}
-use Rattle.f77_parse.specs.Progress.{Among, Clean, Stands, RefusesMark}
+use Rattle.fault_marks.specs.Refusals.{RefusesMark}
+use Rattle.f77_parse.specs.Progress.{Among, Clean, Stands}
 use Rattle.f77_parse.specs.Shown.{IsLast}
 use Rattle.f77_parse.specs.UnitFaults.{Shows, UnitShows, Explains}
-use Rattle.f77_parse.proofs.Firsts.{mapped}
+use Rattle.fault_marks.proofs.Firsts.{mapped}
 use Rattle.f77_parse.proofs.Endings.{end_form}
 
 -- ---- the first and the next statement

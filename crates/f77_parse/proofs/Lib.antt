@@ -1,5 +1,5 @@
 mod Deciding
-mod Firsts
+mod Numbered
 mod Contexts
 mod Texts
 mod Showing
@@ -7,3 +7,5 @@ mod Standing
 mod Headings
 mod Finishing
 mod Endings
+mod ReadTexts
+mod LastStatements

@@ -7,18 +7,20 @@ use Rattle.f77_tree.specs.declared.form.Form.{Form}
 use Rattle.f77_tree.specs.declared.unit.UnitKind.{UnitKind}
 use Rattle.fixed_form.specs.declared.reader.Line.{Line}
 use Rattle.f77_parse.specs.declared.context.Context.{Context}
-use Rattle.f77_parse.specs.declared.marks.Mark.{Mark}
+use Rattle.fault_marks.specs.declared.marks.Mark.{Mark}
 use Rattle.f77_parse.specs.Statements.{HasFormAt}
 use Rattle.f77_parse.specs.Order.{BreaksOrder}
 use Rattle.f77_parse.specs.Limits.{PassesTokens, PassesDummies}
 use Rattle.f77_parse.specs.UnitFaults as u
 use Rattle.f77_parse.specs.UnitFaults.{is_foreign_head, Shows, IsAt}
-use Rattle.f77_parse.specs.Earliest.{first_of, Earliest}
+use Rattle.fault_marks.specs.Earliest.{first_of, mark_if, Earliest}
 use Rattle.f77_parse.specs.Context.{breaks_order, Knows}
 use Rattle.f77_parse.specs.Shown as s
-use Rattle.f77_parse.specs.Shown.{IsOnly, KnowsForm, KnowsPassing, Explained, Marks, FormShows, FormPart, mark_if, mark_at}
+use Rattle.f77_parse.specs.Shown.{IsOnly, KnowsForm, KnowsPassing, Explained, FormShows, FormPart, mark_at}
 use Rattle.f77_parse.proofs.Deciding.{told, decides_not, decides_and}
-use Rattle.f77_parse.proofs.Firsts.{mapped, either, marked, Numbered, numbered}
+use Rattle.fault_marks.specs.Places.{Marks}
+use Rattle.fault_marks.proofs.Firsts.{mapped, either, marked}
+use Rattle.f77_parse.proofs.Numbered.{Numbered, numbered}
 use Rattle.f77_parse.proofs.Contexts.{order_told}
 
 -- ---- a form

@@ -14,19 +14,19 @@ use Rattle.fixed_form.specs.declared.reader.Line.{Line}
 use Rattle.f77_expr.specs.Laws.{PiecesAreUnique}
 use Rattle.f77_expr.specs.Lexing.{Counts}
 use Rattle.f77_parse.specs.declared.context.Context.{Context}
-use Rattle.f77_parse.specs.declared.marks.Mark.{Mark}
+use Rattle.fault_marks.specs.declared.marks.Mark.{Mark}
 use Rattle.f77_parse.specs.declared.unit.Progress.{Progress}
 use Rattle.f77_parse.specs.Context.{Knows, behind}
-use Rattle.f77_parse.specs.Earliest.{first_of, Earliest}
+use Rattle.fault_marks.specs.Earliest.{first_of, Earliest}
 use Rattle.std.proofs.lemmas.Bool.Decides.{nat_tests}
-use Rattle.f77_parse.specs.Marks.{comes_first}
+use Rattle.fault_marks.specs.Marks.{comes_first}
 use Rattle.f77_parse.specs.Limits.{CountTokens}
 use Rattle.f77_parse.specs.Parsed.{IsStatement}
 use Rattle.f77_parse.specs.Progress.{Among, Clean, Stands, with_statement}
 use Rattle.f77_parse.specs.Shown.{KnowsForm, HasNoForm, KnowsPassing}
 use Rattle.f77_parse.specs.UnitFaults as u
 use Rattle.f77_parse.specs.UnitFaults.{Shows, IsAt, IsFormless, TokenFault}
-use Rattle.f77_parse.proofs.Firsts.{mapped, either}
+use Rattle.fault_marks.proofs.Firsts.{mapped, either}
 use Rattle.f77_parse.proofs.Contexts.{knows_behind, Cut, at_last, earlier, cut_of}
 
 zip_push : {A B : Type 0} (R : A → B → Type 0) (xs : List A) (x : A) (zs : List B) (z : B) → AllZip R xs zs → R x z → AllZip R (xs ++ x ∷ []) (zs ++ z ∷ [])

@@ -1,7 +1,5 @@
 pub mod Context
-pub mod Earliest
 pub mod Limits
-pub mod Marks
 pub mod Order
 pub mod Parsed
 pub mod Progress

@@ -6,7 +6,7 @@ use Rattle.f77_tree.specs.declared.unit.Unit.{Unit as SourceUnit}
 use Rattle.fixed_form.specs.declared.reader.Line.{Line}
 use Rattle.fixed_form.specs.declared.reader.UnitText.{UnitText}
 use Rattle.f77_forms.specs.Forms.{HasForm}
-use Rattle.f77_parse.specs.declared.marks.Mark.{Mark}
+use Rattle.fault_marks.specs.declared.marks.Mark.{Mark}
 use Rattle.f77_parse.specs.Statements.{HasHead}
 use Rattle.f77_parse.specs.Limits.{CountTokens}
 use Rattle.f77_parse.specs.UnitFaults.{UnitShows}

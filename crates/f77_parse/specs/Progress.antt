@@ -2,8 +2,6 @@
 use Rattle.std.specs.Prelude.{◌≡◌, ℕ, ◌≤◌, min, List, [], ◌∷◌, ◌++◌, Some, None}
 use Rattle.std.specs.List.{All, AllZip}
 use Rattle.std.specs.declared.option.Option.{Option}
-use Rattle.f77_tree.specs.declared.fault.Refused.{Refused}
-use Rattle.f77_tree.specs.declared.fault.Refused.TheVariants.{Fault, OutOfMemory}
 use Rattle.f77_tree.specs.Ends.{IsNoEnd}
 use Rattle.f77_tree.specs.declared.form.Form.{Form}
 use Rattle.f77_tree.specs.declared.form.TypeWord.{TypeWord}
@@ -12,13 +10,13 @@ use Rattle.f77_tree.specs.declared.unit.Stmt.{Stmt}
 use Rattle.f77_tree.specs.declared.unit.UnitKind.{UnitKind}
 use Rattle.f77_tree.specs.declared.unit.UnitKind.TheVariants as unit
 use Rattle.fixed_form.specs.declared.reader.Line.{Line}
-use Rattle.f77_parse.specs.declared.marks.Mark.{Mark}
+use Rattle.fault_marks.specs.declared.marks.Mark.{Mark}
 use Rattle.f77_parse.specs.declared.unit.Progress.{Progress}
 use Rattle.f77_parse.specs.Context.{Knows}
-use Rattle.f77_parse.specs.Earliest.{Earliest}
+use Rattle.fault_marks.specs.Earliest.{Earliest}
 use Rattle.f77_parse.specs.Limits.{CountTokens, most_tokens}
 use Rattle.f77_parse.specs.Parsed.{IsStatement}
-use Rattle.f77_parse.specs.UnitFaults.{Shows, fault_of}
+use Rattle.f77_parse.specs.UnitFaults.{Shows}
 
 -- One of these statements shows the fault, with others behind them.
 pub record Among (kind : UnitKind) (lines behind : List Line) (mark : Mark) : Type 0 where
@@ -52,7 +50,3 @@ with_statement statements line (Some form) = statements ++ record { label = line
 pub data TellsHead (form : Form) (kind : UnitKind) (names : List (List ℕ)) : Type 0 where
   of_head : (word : Option TypeWord) (name : List ℕ) → form ≡ f.Head kind word name names → TellsHead form kind names
   of_none : ((k : UnitKind) (word : Option TypeWord) (name : List ℕ) (all : List (List ℕ)) → form ≡ f.Head k word name all → ⊥) → kind ≡ unit.Main → names ≡ [] → TellsHead form kind names
-
-abbrev pub RefusesMark : Refused → List ℕ → Mark → Type 0
-RefusesMark (Fault fault) name mark = fault ≡ fault_of name mark
-RefusesMark OutOfMemory name mark = Unit {0}

@@ -1,5 +1,5 @@
 -- The faults of a statement, part by part.
-use Rattle.std.specs.Prelude.{◌≡◌, ℕ, Bool, true, false, if◌then◌else◌, List, [], Some, None}
+use Rattle.std.specs.Prelude.{◌≡◌, ℕ, Bool, true, false, List, [], Some, None}
 use Rattle.std.specs.Bool.{MatchBool}
 use Rattle.std.specs.declared.option.Option.{Option}
 use Rattle.f77_tree.specs.declared.form.Form.{Form, out-Form}
@@ -7,7 +7,8 @@ use Rattle.f77_tree.specs.declared.form.Form.TheOpen.{Form-F}
 use Rattle.f77_tree.specs.declared.unit.UnitKind.{UnitKind}
 use Rattle.fixed_form.specs.declared.reader.Line.{Line}
 use Rattle.f77_forms.specs.Foreign.{IsForeign}
-use Rattle.f77_parse.specs.declared.marks.Mark.{Mark}
+use Rattle.fault_marks.specs.declared.marks.Mark.{Mark}
+use Rattle.fault_marks.specs.Places.{Marks}
 use Rattle.f77_parse.specs.Statements.{HasFormAt}
 use Rattle.f77_parse.specs.Order.{BreaksOrder}
 use Rattle.f77_parse.specs.Limits.{PassesTokens, PassesDummies, most_dummies}
@@ -58,13 +59,6 @@ pub data Explained (behind : List Line) (text : List ℕ) (number : ℕ) : Type 
   foreign : IsFormless behind text → IsForeign text → number ≡ 7 → Explained behind text number
   no_form : IsFormless behind text → (IsForeign text → ⊥) → number ≡ 6 → Explained behind text number
 
--- this fault, where something holds
-pub record Marks (Holds : Type 0) (line number limit : ℕ) (mark : Mark) : Type 0 where
-  pub holds : Holds
-  pub line_is : mark.line ≡ line
-  pub number_is : mark.number ≡ number
-  pub limit_is : mark.limit ≡ limit
-
 pub data FormShows (kind : UnitKind) (before : List Line) (line : ℕ) (form : Form) (mark : Mark) : Type 0 where
   foreign_head : Marks ((is_foreign_head form ≡ true) × (before ≡ [] → ⊥)) line 7 0 mark → FormShows kind before line form mark
   order : Marks (BreaksOrder kind before form) line 8 0 mark → FormShows kind before line form mark
@@ -76,9 +70,6 @@ FormPart kind before line (Some form) mark = FormShows kind before line form mar
 
 abbrev pub KnowsPassing : List Line → Line → Bool → Type 0
 KnowsPassing before line passes = MatchBool passes (PassesTokens before line) (PassesTokens before line → ⊥)
-
-abbrev pub mark_if : Bool → ℕ → ℕ → ℕ → Option Mark
-mark_if holds line number limit = if holds then Some (record { line = line; number = number; limit = limit }) else None
 
 abbrev pub mark_at : ℕ → Option ℕ → Option Mark
 mark_at line None = None

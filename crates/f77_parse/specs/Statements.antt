@@ -1,5 +1,5 @@
 -- Statements of a unit by their texts and their forms.
-use Rattle.std.specs.Prelude.{◌≡◌, ℕ, Bool, true, false, List, [], ◌∷◌, ◌++◌, codes}
+use Rattle.std.specs.Prelude.{◌≡◌, ℕ, ◌≤◌, Bool, true, false, List, [], ◌∷◌, ◌++◌, codes, length}
 use Rattle.f77_tree.specs.declared.form.Form.{Form, fold-Form, out-Form}
 use Rattle.f77_tree.specs.declared.form.Form.TheOpen.{Form-F}
 use Rattle.f77_tree.specs.declared.form.Form.TheVariants as f
@@ -24,6 +24,10 @@ pub record EndsUnit (u : UnitText) : Type 0 where
   pub last : Line
   pub cut : u.statements ≡ front ++ last ∷ []
   pub end : last.text ≡ codes "END"
+
+-- Twenty lines of 66 columns hold the text of a statement.
+abbrev pub IsShortText : Line → Type 0
+IsShortText line = length line.text ≤ 1320
 
 -- the kind of the unit and its dummies, by the first statement where that is a head
 pub data HasHead (lines : List Line) (kind : UnitKind) (dummies : List (List ℕ)) : Type 0 where

@@ -13,11 +13,12 @@ use Rattle.fixed_form.specs.declared.reader.UnitText.{UnitText}
 use Rattle.f77_expr.specs.Depth.{deepest}
 use Rattle.f77_expr.specs.Lexing.{Piece, Unclosed, Large, Pieces, Has, Lacks, tokens_of}
 use Rattle.f77_forms.specs.Foreign.{IsForeign}
-use Rattle.f77_parse.specs.declared.marks.Mark.{Mark}
+use Rattle.fault_marks.specs.declared.marks.Mark.{Mark}
 use Rattle.f77_parse.specs.Statements.{HasFormAt, HasHead}
 use Rattle.f77_parse.specs.Order.{BreaksOrder}
 use Rattle.f77_parse.specs.Limits.{PassesTokens, PassesDummies, most_tokens, most_dummies}
-use Rattle.f77_parse.specs.Marks.{IsFirst}
+use Rattle.fault_marks.specs.Marks.{IsFirst}
+use Rattle.fault_marks.specs.Refusals.{fault_of}
 
 -- Faults that the pieces of a text explain: 10 where a literal isn't closed, else 9 where an integer is too large, else 11
 -- where more than 100 parentheses stand in each other.
@@ -77,9 +78,6 @@ pub record UnitShows (u : UnitText) (mark : Mark) : Type 0 where
   pub behind : List Line
   pub cut : u.statements ≡ before ++ line ∷ behind
   pub shows : Shows kind before line behind mark
-
-abbrev pub fault_of : List ℕ → Mark → SourceFault
-fault_of name mark = record { number = mark.number; place = record { unit = Some name; line = mark.line }; limit = mark.limit }
 
 -- the first fault of the unit
 pub record IsUnitFault (fault : SourceFault) (u : UnitText) : Type 0 where

@@ -3,10 +3,15 @@
 
 mod class;
 mod context;
-mod marks;
+mod laws;
 mod statement;
 mod unit;
 
 pub use f77_tree::{Refused, Unit};
 pub use fixed_form::UnitText;
-pub use unit::parse_unit;
+pub use laws::{end_law, read_law};
+pub use statement::form_at;
+pub use unit::{ends_by_end, parse_unit};
+
+#[cfg(test)]
+mod tests;

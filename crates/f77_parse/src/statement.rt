@@ -6,17 +6,17 @@ ghost use Rattle.fixed_form.specs.declared.reader.Line.{Line as AnyLine};
 ghost use Rattle.f77_forms.specs.Answers as a;
 ghost use Rattle.f77_forms.specs.Foreign.{IsForeign};
 ghost use Rattle.f77_parse.specs.Context as c;
-ghost use Rattle.f77_parse.specs.Earliest as e;
+ghost use Rattle.fault_marks.specs.Earliest as e;
 ghost use Rattle.f77_parse.specs.Limits as l;
 ghost use Rattle.f77_parse.specs.Shown as h;
 ghost use Rattle.f77_parse.specs.Statements as s;
 ghost use Rattle.f77_parse.specs.UnitFaults as f;
 
 use super::context::{Context, breaks_order};
-use super::marks::{Mark, first_of};
 use f77_expr::{lexes_law, tokens};
 use f77_forms::{form_of, is_foreign};
 use f77_tree::{Form, Place, Refused, TypeWord};
+use fault_marks::{Mark, first_of, mark_if};
 use fixed_form::Line;
 use std::alloc::{AllocError, Global};
 
@@ -89,20 +89,6 @@ fn explained(alloc: Global, text: &[u8], formed: bool) -> Result<Option<u8>, All
         return Ok(None);
     }
     Ok(Some(if is_foreign(text) { 7 } else { 6 }))
-}
-
-/// A fault at a line, where it holds.
-fn mark_if(holds: bool, line: u32, number: u8, limit: u64) -> Option<Mark>
-    ensures { result ≡ h.mark_if holds line number limit }
-{
-    if !holds {
-        return None;
-    }
-    Some(Mark {
-        line,
-        number,
-        limit,
-    })
 }
 
 /// The fault of a number at a line.

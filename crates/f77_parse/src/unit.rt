@@ -12,11 +12,11 @@ ghost use Rattle.f77_parse.specs.Statements as s;
 ghost use Rattle.f77_parse.specs.UnitFaults as f;
 
 use super::context::{Context, behind};
-use super::marks::{Mark, first_of};
 use super::statement::{MOST_TOKENS, form_at, statement_mark};
 use f77_expr::{lexes_law, token_count};
 use f77_forms::form_of;
-use f77_tree::{Duplicate, Form, List, Name, Place, Refused, SourceFault, Stmt, Unit, UnitKind};
+use f77_tree::{Duplicate, Form, List, Name, Refused, Stmt, Unit, UnitKind};
+use fault_marks::{Mark, first_of, refusal};
 use fixed_form::{Line, UnitText};
 use std::alloc::{AllocError, Global};
 
@@ -117,20 +117,14 @@ fn heading(alloc: Global, lines: &[Line]) -> Result<(UnitKind, List<Name>), Allo
     head_of(alloc, &form)
 }
 
-fn refusal(alloc: Global, name: &Name, mark: Mark) -> Refused
-    ensures { g.RefusesMark result name.now mark }
+/// Whether the last statement of a unit is END, which `parse_unit` asks for.
+pub fn ends_by_end(unit: &UnitText) -> bool
+    ensures ends { MatchBool result (s.EndsUnit unit.now) (s.EndsUnit unit.now → ⊥) }
 {
-    let Ok(unit) = name.copy(alloc) else {
-        return Refused::OutOfMemory;
+    let Some((last, _)) = unit.statements.as_slice().split_last() else {
+        return false;
     };
-    Refused::Fault(SourceFault {
-        number: mark.number,
-        place: Place {
-            unit: Some(unit),
-            line: mark.line,
-        },
-        limit: mark.limit,
-    })
+    last.text.as_slice() == b"END".as_slice()
 }
 
 /// The tree of a unit whose last statement is END, or the first of its faults 6 to 11 and 37 by line, then by number.

@@ -31,7 +31,7 @@ pub returns-in-Some-fault-clause-fault : goal.returns-in-Some-fault-clause-fault
 returns-in-Some-fault-clause-fault c =
     let done = finished c.args.unit.now c.as_slice-lines.result.now c.in-Some.front.now c.in-Some.last.now c.loop-line.line-index c.in_ok-kind.kind c.in_ok-kind.dummies c.loop-line.progress c.in_ok-statements.field-0 c.as_slice-lines.ensures (c.in-Some.ensures {u = tt}).cases.0 c.loop-line-test.false
     (c.in_ok-kind.ensures {u = tt}).head (c.in_ok-kind.ensures {u = tt}).only c.loop-line.invariant.kind (c.in_ok-statements.ensures {u = tt}).kind c.loop-line.invariant.stands (c.in_ok-statements.ensures {u = tt}).stands in
-    finished_fault c.refusal.result c.args.unit.now c.in_ok-kind.kind c.in_ok-kind.dummies c.in_ok-statements.field-0 c.in-Some-fault.mark done c.in-Some-fault.is c.refusal.ensures
+    finished_fault c.refusal.result c.args.unit.now c.in_ok-kind.kind c.in_ok-kind.dummies c.in_ok-statements.field-0 c.in-Some-fault.mark done c.in-Some-fault.is c.refusal.ensures.told
 
 pub returns-clause-unit : goal.returns-clause-unit
 returns-clause-unit c =

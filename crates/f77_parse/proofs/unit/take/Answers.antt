@@ -12,4 +12,4 @@ returns-clause-stands c = λ before after last stands.
     let counts : Counts line.text c.token_count.result = subst (λ (t : List ℕ). Counts t c.token_count.result) same c.token_count.ensures.count in
     let passing = passes_told c.lexes_law.ensures.pieces before line stands.total c.token_count.result c.args.progress.tokens c.add_tokens-total.result stands.counted counts stands.tokens c.add_tokens-total.ensures c.passes_limit.result c.passes_limit.ensures in
     let mark = (c.in_ok-mark.ensures {u = tt}) before after stands.knows form passing in
-    stands_next before line after c.args.progress _ c.in_ok-form.form c.token_count.result c.in_ok-mark.mark stands form counts mark c.behind-context.ensures c.add_tokens-total.ensures c.first_of.ensures (c.in_ok-statements.ensures {u = tt})
+    stands_next before line after c.args.progress _ c.in_ok-form.form c.token_count.result c.in_ok-mark.mark stands form counts mark c.behind-context.ensures c.add_tokens-total.ensures c.first_of.ensures.first (c.in_ok-statements.ensures {u = tt})

@@ -1,6 +1,6 @@
 -- Which of several faults of a unit comes first.
 use Rattle.std.specs.Prelude.{◌≡◌, Bool, true, ◌==◌, nat_lt, nat_le, if◌then◌else◌}
-use Rattle.f77_parse.specs.declared.marks.Mark.{Mark}
+use Rattle.fault_marks.specs.declared.marks.Mark.{Mark}
 
 -- By line, then by number. Of two faults 37 on one line that of the greater limit comes first.
 abbrev pub comes_first : Mark → Mark → Bool

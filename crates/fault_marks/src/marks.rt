@@ -1,10 +1,10 @@
 //! Faults of one unit, and which comes first.
 ghost use Rattle.std.specs.Prelude.{◌≡◌};
-ghost use Rattle.f77_parse.specs.Marks as m;
-ghost use Rattle.f77_parse.specs.Earliest as e;
+ghost use Rattle.fault_marks.specs.Marks as m;
+ghost use Rattle.fault_marks.specs.Earliest as e;
 
 /// A fault of a unit: its line, its number, and the limit that it tells (0 in all but fault 37).
-#[derive(Clone, Copy, Debug, Drop)]
+#[derive(Clone, Copy, Debug, Drop, PartialEq, Eq)]
 pub struct Mark {
     pub line: u32,
     pub number: u8,
@@ -23,9 +23,9 @@ fn comes_first(a: Mark, b: Mark) -> bool
     b.limit <= a.limit
 }
 
-/// The first of two faults, as far as there are any.
+/// The first of two faults, as far as there are any: by line, then by number, then that of the greater limit.
 pub fn first_of(a: Option<Mark>, b: Option<Mark>) -> Option<Mark>
-    ensures { result ≡ e.first_of a b }
+    ensures first { result ≡ e.first_of a b }
 {
     let Some(x) = a else {
         return b;
@@ -34,4 +34,18 @@ pub fn first_of(a: Option<Mark>, b: Option<Mark>) -> Option<Mark>
         return a;
     };
     if comes_first(x, y) { a } else { b }
+}
+
+/// A fault, where it holds.
+pub fn mark_if(holds: bool, line: u32, number: u8, limit: u64) -> Option<Mark>
+    ensures mark { result ≡ e.mark_if holds line number limit }
+{
+    if !holds {
+        return None;
+    }
+    Some(Mark {
+        line,
+        number,
+        limit,
+    })
 }

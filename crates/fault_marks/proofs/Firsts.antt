@@ -3,15 +3,12 @@ use Rattle.std.proofs.Common.{◌≡◌, ℕ, Bool, true, false, cond, Some, Non
 use Rattle.std.specs.Bool.{MatchBool}
 use Rattle.std.specs.declared.option.Option.{Option}
 use Rattle.std.proofs.lemmas.Bool.Decides.{nat_tests}
-use Rattle.f77_parse.specs.declared.marks.Mark.{Mark}
-use Rattle.f77_parse.specs.Marks.{comes_first, IsFirst}
-use Rattle.f77_parse.specs.Earliest.{first_of, Earliest}
-use Rattle.f77_parse.specs.Shown.{IsOnly, Marks, mark_if, mark_at}
+use Rattle.fault_marks.specs.declared.marks.Mark.{Mark}
+use Rattle.fault_marks.specs.Marks.{comes_first, IsFirst}
+use Rattle.fault_marks.specs.Earliest.{first_of, mark_if, Earliest}
+use Rattle.fault_marks.specs.Places.{Marks}
 
-itself_first : (a : Mark) → comes_first a a ≡ true
-itself_first a = grind (arith, nat_tests)
-
-same_first : (a b : Mark) → a.line ≡ b.line → a.number ≡ b.number → a.limit ≡ b.limit → comes_first a b ≡ true
+pub same_first : (a b : Mark) → a.line ≡ b.line → a.number ≡ b.number → a.limit ≡ b.limit → comes_first a b ≡ true
 same_first a b l n m = grind (arith, nat_tests)
 
 other_first : (a b : Mark) → comes_first a b ≡ false → comes_first b a ≡ true
@@ -61,16 +58,3 @@ either P Q (Some a) (Some b) h k = either_first P Q a b (comes_first a b) refl h
 pub marked : (H : Type 0) (holds : Bool) (line number limit : ℕ) → MatchBool holds H (H → ⊥) → Earliest (Marks H line number limit) (mark_if holds line number limit)
 marked H true line number limit h = record { shows = record { holds = h; line_is = refl; number_is = refl; limit_is = refl }; first = λ m k. same_first (record { line = line; number = number; limit = limit }) m (sym k.line_is) (sym k.number_is) (sym k.limit_is) }
 marked H false line number limit h = λ m k. h k.holds
-
--- a fault whose number is one of a kind
-pub record Numbered (Is : ℕ → Type 0) (line : ℕ) (mark : Mark) : Type 0 where
-  pub is : Is mark.number
-  pub line_is : mark.line ≡ line
-  pub limit_is : mark.limit ≡ 0
-
-pub numbered : (Is : ℕ → Type 0) (line : ℕ) (found : Option ℕ) → IsOnly Is found → Earliest (Numbered Is line) (mark_at line found)
-numbered Is line None h = λ m k. h m.number k.is
-numbered Is line (Some n) h = record {
-  shows = record { is = h.0; line_is = refl; limit_is = refl };
-  first = λ m k. same_first (record { line = line; number = n; limit = 0 }) m (sym k.line_is) (sym (h.1 m.number k.is)) (sym k.limit_is);
-}
