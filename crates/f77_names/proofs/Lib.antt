@@ -1,0 +1,5 @@
+pub mod Joined
+pub mod Passes
+pub mod Noting
+pub mod Seeing
+pub mod Gathered

@@ -1,0 +1,9 @@
+pub mod Exclusions
+pub mod Givings
+pub mod Places
+pub mod Conflicts
+pub mod Tables
+pub mod Untyped
+pub mod Dummies
+pub mod LargeArrays
+pub mod NameFaults
