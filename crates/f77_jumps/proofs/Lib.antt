@@ -1,0 +1,9 @@
+pub mod Chains
+pub mod Above
+pub mod Opening
+pub mod Spanning
+pub mod Crossing
+pub mod Flags
+pub mod Labelling
+pub mod Straying
+pub mod Gathering
