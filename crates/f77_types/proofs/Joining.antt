@@ -1,0 +1,4 @@
+-- Lists that are put behind each other.
+use Rattle.std.proofs.Common.{append_assoc}
+
+pub ruleset joining = (append_assoc)

@@ -1,0 +1,11 @@
+pub mod Standings
+pub mod ExpressionTypes
+pub mod Places
+pub mod WrongTypes
+pub mod Subscripts
+pub mod Scalars
+pub mod Targets
+pub mod Exponents
+pub mod Breaks
+pub mod Overreaching
+pub mod TypeFaults
