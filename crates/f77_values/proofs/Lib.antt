@@ -1,0 +1,5 @@
+mod Layers
+mod Passing
+mod Pairs
+mod Gathering
+mod Givings
