@@ -1,0 +1,6 @@
+//! The checks of a unit.
+#![tactic(auto)]
+
+mod check;
+
+pub use check::check_unit;
