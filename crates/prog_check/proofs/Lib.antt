@@ -1,0 +1,14 @@
+pub mod Said
+pub mod Named
+pub mod Pairs
+pub mod Given
+pub mod Firsts
+pub mod Scanning
+pub mod Counting
+pub mod Stepping
+pub mod Telling
+pub mod Storage
+pub mod Limiting
+pub mod Reaching
+pub mod Cycling
+pub mod Verdicts

@@ -1,0 +1,24 @@
+//! The faults of a program.
+#![tactic(auto)]
+
+mod checks;
+mod cycles;
+mod limits;
+mod marks;
+mod mentions;
+mod programs;
+mod scans;
+mod signatures;
+mod texts;
+mod verdict;
+
+pub use checks::Check;
+pub use cycles::{Edge, cycle_fault};
+pub use limits::{Measure, limit_fault};
+pub use marks::{ProgramMark, first_of};
+pub use mentions::{Actual, Mention, Site, Wanted};
+pub use programs::{Program, program_of};
+pub use scans::{main_fault, text_fault};
+pub use signatures::{Dummy, Shape, Signature};
+pub use texts::mentions_with;
+pub use verdict::check_program;
