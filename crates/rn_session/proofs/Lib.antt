@@ -3,7 +3,4 @@ pub mod Numbers
 pub mod Parts
 pub mod Replied
 pub mod Told
-pub mod TokenSizes
-pub mod FormSizes
-pub mod ReadTexts
-pub mod Gathered
+pub mod ThinTexts

@@ -6,7 +6,7 @@ use Rattle.std.proofs.Math.Nat.{le_of_mul-le-mul_right}
 use Rattle.std.proofs.lemmas.Bool.{cases_lt}
 use Rattle.run_model.specs.Runs.{Run, Going, Finished, UndefinedAt, Wrong, text_of, Begins}
 use Rattle.thin_form.specs.declared.statement.Statement.{Statement}
-use Rattle.rn_session.specs.Texts.{text_bytes}
+use Rattle.thin_text.specs.Thin.{text_bytes}
 use Rattle.rv_machine.specs.declared.outcome.Outcome.{Outcome}
 use Rattle.rv_machine.specs.declared.outcome.Outcome.TheVariants.{Running, Halted, Trap}
 use Rattle.rv_machine.specs.Machine.{State, run, output}

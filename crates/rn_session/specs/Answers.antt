@@ -9,7 +9,8 @@ use Rattle.f77_tree.specs.declared.fault.SourceFault.{SourceFault}
 use Rattle.f77_tree.specs.declared.fault.Refused.{Refused}
 use Rattle.f77_tree.specs.declared.fault.Refused.TheVariants.{Fault, OutOfMemory as Starved}
 use Rattle.thin_form.specs.declared.statement.Statement.{Statement}
-use Rattle.rn_session.specs.Texts.{IsThinText, IsTextFault, text_bytes}
+use Rattle.thin_text.specs.Thin.{text_bytes}
+use Rattle.rn_session.specs.Texts.{IsThinText, IsTextFault}
 use Rattle.thin_code.specs.Meaning.{Source}
 use Rattle.thin_code.specs.Agreement.{Agrees, EndsWithin, IsOrderly}
 use Rattle.rv_machine.specs.Start.{Loads}

@@ -10,7 +10,8 @@ use Rattle.thin_code.specs.Agreement.{IsUndefined}
 use Rattle.rn_session.specs.declared.status.Status.{Status}
 use Rattle.rn_session.specs.declared.status.Status.TheVariants.{Ok as Done, StepsSpent, Trapped}
 use Rattle.rn_session.specs.Replies.{behind}
-use Rattle.rn_session.specs.Texts.{IsThinText, text_bytes}
+use Rattle.thin_text.specs.Thin.{text_bytes}
+use Rattle.rn_session.specs.Texts.{IsThinText}
 
 -- The program meets no undefined action, whatever number of steps it is given.
 abbrev pub IsDefined : List Statement → Type 0

@@ -16,4 +16,6 @@ pub use top::{LIMIT, rn_top};
 #[cfg(test)]
 mod against;
 #[cfg(test)]
+mod fault_tests;
+#[cfg(test)]
 mod tests;

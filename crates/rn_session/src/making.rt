@@ -1,39 +1,36 @@
 //! From a text to a machine at the start of its file.
 ghost use Rattle.std.specs.Prelude.{◌≡◌, ℕ, ◌++◌, ◌≤◌, [], IfOk, IfErr, OnOk, OnErr};
-ghost use Rattle.std.specs.List.{All};
-ghost use Rattle.f77_tree.specs.Ends.{EndsOnce};
-ghost use Rattle.f77_parse.specs.Statements.{EndsUnit};
 ghost use Rattle.thin_form.specs.Programs.{IsProgram, IsSmall};
 ghost use Rattle.elf_file.specs.Shape.{NoShape};
 ghost use Rattle.rv_machine.specs.Start.{Loads};
 ghost use Rattle.rv_machine.specs.Kept.{state_of};
 ghost use Rattle.rn_session.specs.Answers.{IsFileOf, StartsOn, NotedAt, compiled};
-ghost use Rattle.rn_session.specs.Texts.{AreTrees, Explains};
+ghost use Rattle.thin_text.specs.declared.thin.Thin.TheVariants.{Program};
+ghost use Rattle.rn_session.specs.Texts.{Explains};
 ghost use Rattle.rn_session.specs.Made as m;
 
-use f77_parse::parse_unit;
-use f77_tree::{List, Refused, Unit};
-use fixed_form::{UnitText, read_units};
+use f77_parse::read_law;
+use f77_tree::{List, Refused};
+use fixed_form::read_units;
+use rn_draft::{accept, drafted, drafts_law};
 use rn_ports::{Kind, Tally};
 use rv_machine::{ElfRefused, Machine};
 use std::alloc::{AllocError, Global};
 use thin_code::program_file;
-use thin_form::{Statement, thin_program};
+use thin_form::Statement;
+use thin_text::{Thin, sizes_law, thin_of};
 
-/// The trees of units, or the fault of the first unit that has one.
-fn parse_units(alloc: Global, units: &[UnitText]) -> Result<List<Unit>, Refused>
-    requires ended { All EndsUnit units.now }
-    ensures trees { IfOk result (λ trees. AreTrees units.now trees) }
-    ensures few { IfOk result (λ trees. All m.HasFewTokens trees) }
-    ensures ends { IfOk result (λ trees. All EndsOnce trees) }
-    ensures fault { IfErr result (λ e. m.ExplainsAmong e units.now) }
+/// What is found of a thin text, where its draft was accepted.
+fn body_of(thin: Thin) -> Result<List<Statement>, Refused>
+    requires { m.IsKnown thin }
+    ensures body { IfOk result (λ body. thin ≡ Program body) }
+    ensures fault { IfErr result (λ e. m.Breaks e thin) }
 {
-    let mut trees = List::new(alloc);
-    for unit in units {
-        let tree = parse_unit(alloc, unit)?;
-        trees.push(tree)?;
+    match thin {
+        Thin::Program(body) => Ok(body),
+        Thin::Broken(fault) => Err(Refused::Fault(fault)),
+        Thin::Nothing => unreachable!(),
     }
-    Ok(trees)
 }
 
 /// The statements of the thin program that a text is, or the fault of the text.
@@ -43,10 +40,14 @@ pub fn thin_body(alloc: Global, text: &[u8]) -> Result<List<Statement>, Refused>
     ensures small { IfOk result (λ body. IsSmall body) }
     ensures fault { IfErr result (λ e. Explains e text.now) }
 {
+    read_law();
+    sizes_law();
+    drafts_law();
     let units = read_units(alloc, text)?;
-    let trees = parse_units(alloc, units.as_slice())?;
-    let body = thin_program(alloc, trees.as_slice())?;
-    Ok(body)
+    let thin = thin_of(alloc, units.as_slice())?;
+    let draft = drafted(alloc, units)?;
+    accept(alloc, draft.as_slice())?;
+    body_of(thin)
 }
 
 /// The bytes of an ELF file that does what the thin program does that the text is. One Compile of MAIN is noted where

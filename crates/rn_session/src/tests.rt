@@ -107,7 +107,7 @@ fn refuses_texts(rt: HostRuntime) -> Result<(), Fail> {
         ),
         (
             "      I = 1\n      GO TO 7\n      END\n",
-            "fault 7 MAIN line 2\n",
+            "fault 14 MAIN line 2\n",
         ),
         (
             "      I = 1\n      IF (I .EQ. 0) I = 1\n      END\n",
@@ -128,7 +128,7 @@ fn refuses_texts(rt: HostRuntime) -> Result<(), Fail> {
         ("   10 I = 1\n      END\n", "fault 7 MAIN line 1\n"),
         ("      PROGRAM P\n      END\n", "fault 7 P line 1\n"),
         ("      K = -1\n      END\n", "fault 7 MAIN line 1\n"),
-        ("      X = 1\n      END\n", "fault 7 MAIN line 1\n"),
+        ("      X = 1\n      END\n", "fault 13 MAIN line 1\n"),
         ("      PRINT *, 'AB\n      END\n", "fault 10 MAIN line 1\n"),
     ];
     for (input, text) in table {
@@ -163,7 +163,7 @@ fn asks_for_forms_of_statements(rt: HostRuntime) -> Result<(), Fail> {
     Ok(())
 }
 
-// A head with so many dummies, and END.
+// A head with so many dummies of one name, and END.
 fn head(alloc: Global, count: usize) -> Result<Vec<u8>, AllocError> {
     let mut text = Vec::from_slice(alloc, b"      SUBROUTINE S(A")?;
     for at in 1..count {
@@ -179,7 +179,7 @@ fn head(alloc: Global, count: usize) -> Result<Vec<u8>, AllocError> {
 #[test]
 fn limits_dummies(rt: HostRuntime) -> Result<(), Fail> {
     let seen = call(rt, "one 1000", head(rt.alloc(), 63)?, &[], &[])?;
-    assert_eq!(rt; seen.text.as_slice(), b"fault 7 S line 1\n".as_slice());
+    assert_eq!(rt; seen.text.as_slice(), b"fault 12 S line 1\n".as_slice());
     let seen = call(rt, "one 1000", head(rt.alloc(), 64)?, &[], &[])?;
     assert_eq!(rt;
         seen.text.as_slice(),

@@ -2,4 +2,3 @@ mod Parts
 pub mod Zips
 mod Terms
 mod Statements
-mod Units

@@ -10,8 +10,6 @@ use Rattle.f77_tree.specs.declared.form.Form.TheVariants as form
 use Rattle.thin_form.specs.declared.statement.Item.{Item}
 use Rattle.thin_form.specs.declared.statement.Statement.{Statement}
 use Rattle.thin_form.specs.declared.statement.Statement.TheVariants.{Print}
-use Rattle.f77_tree.specs.declared.unit.Stmt.{Stmt}
-use Rattle.thin_form.specs.Thin.{IsThinStatement}
 use Rattle.thin_form.specs.Lacks.{Lacks}
 use Rattle.thin_form.specs.Forms.{IsItemOf, IsAssignmentOf, IsStatementOf, assign, print, end}
 
@@ -43,14 +41,3 @@ no_print tree trees h none = record { not = go }
         let same : trees ≡ others = search (rules, the_lemmas) in
         none.not items (subst (λ x. AllZip IsItemOf x items) (sym same) i)
     go statement (end f s) = let z : form.Print trees ≡ form.End = sym h ∙ f in search (rules, the_lemmas)
-
--- ---- without a label
-
-no_statement : (tree : Stmt) → Lacks (IsStatementOf tree.form) → Lacks (IsThinStatement tree)
-no_statement tree none = record { not = λ statement t. none.not statement t.form }
-
-pub thin_found : {E : Type 0} (tree : Stmt) (found : Result (Option Statement) E) → tree.label ≡ 0 →
-    IfOk found (λ x. MatchOption x (Lacks (IsStatementOf tree.form)) (λ s. IsStatementOf tree.form s)) → IfOk found (λ x. MatchOption x (Lacks (IsThinStatement tree)) (λ s. IsThinStatement tree s))
-thin_found tree (Ok None) h f = no_statement tree f
-thin_found tree (Ok (Some s)) h f = record { unlabelled = h; form = f }
-thin_found tree (Err x) h f = tt

@@ -1,5 +1,3 @@
 pub mod Forms
 pub mod Lacks
 pub mod Programs
-pub mod Progress
-pub mod Thin

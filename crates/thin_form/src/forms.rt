@@ -136,7 +136,7 @@ fn assignment(alloc: Global, target: &Expr, value: &Expr) -> Result<Option<State
 }
 
 /// The thin statement that a tree is.
-pub fn statement(alloc: Global, tree: &Form) -> Result<Option<Statement>, AllocError>
+pub fn thin_statement(alloc: Global, tree: &Form) -> Result<Option<Statement>, AllocError>
     ensures statement { IfOk result (λ found. MatchOption found (Lacks (f.IsStatementOf tree.now)) (λ statement. f.IsStatementOf tree.now statement)) }
     ensures plain { IfOk result (λ found. IfSome found (λ statement. p.IsPlainOrEnd statement)) }
 {

@@ -1,9 +1,8 @@
-//! Thin programs: units that are one unit of assignments of sums, PRINT statements and END.
+//! Thin statements: assignments of sums, PRINT statements and END, as trees have them.
 #![tactic(auto)]
 
 mod forms;
 mod statement;
-mod thin;
 
+pub use forms::thin_statement;
 pub use statement::{Addend, Item, Sign, Statement, Term};
-pub use thin::thin_program;

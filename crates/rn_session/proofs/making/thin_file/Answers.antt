@@ -4,7 +4,7 @@ use Rattle.thin_form.specs.declared.statement.Statement.{Statement}
 use Rattle.thin_form.specs.Programs.{size_of, IsProgram, IsSmall}
 use Rattle.thin_code.specs.Meaning.{Source}
 use Rattle.thin_code.specs.Agreement.{Agrees, EndsWithin, IsOrderly}
-use Rattle.rn_session.specs.Texts.{text_bytes}
+use Rattle.thin_text.specs.Thin.{text_bytes}
 use Rattle.rn_session.proofs.making.thin_file.Goals as goal
 
 within_more : (file : List ℕ) (most more : ℕ) → most ≤ more → EndsWithin file most → EndsWithin file more

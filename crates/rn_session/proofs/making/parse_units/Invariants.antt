@@ -1,5 +1,0 @@
-use Rattle.rn_session.proofs.Gathered.{Gathered}
-use Rattle.rn_session.proofs.making.parse_units.Given as goal
-
-abbrev pub invariant-loop-unit : goal.invariant-loop-unit
-invariant-loop-unit l = Gathered l.units l.unit-index l.trees

@@ -1,0 +1,6 @@
+mod TokenSizes
+mod FormSizes
+mod Lines
+mod Standings
+mod Units
+mod Sizes
