@@ -9,20 +9,16 @@ use Rattle.prog_check.specs.declared.cycles.Edge.{Edge}
 use Rattle.prog_check.specs.declared.marks.ProgramMark.{ProgramMark}
 use Rattle.prog_check.specs.declared.mentions.Mention.{Mention}
 use Rattle.prog_check.specs.declared.mentions.Site.{Site}
-use Rattle.prog_check.specs.Cycles.{Rows, Targets, Calls, Leads, LeadsBack, IsFirstCycle, HasCycle, edge, rows}
+use Rattle.prog_check.specs.Cycles.{Rows, Leads, LeadsBack, HasCycle, edge, rows}
 use Rattle.prog_check.specs.Marks.{comes_first, Earliest}
 use Rattle.prog_check.specs.Mentions.{mentions, sites, site_of}
-use Rattle.prog_check.specs.Searching.{Search, step, explore, led_to, leads_to, first_line, cycle_line, cycle_or, first_cycle, edges_of, row_of}
+use Rattle.prog_check.specs.Searching.{Search, step, explore, led_to, callers, NoneLeadUp, may_cycle, is_seen, first_line, cycle_line, cycle_or, first_cycle, edges_of, row_of}
 use Rattle.prog_check.specs.Shown.{mark_at}
 use Rattle.prog_check.specs.Signatures.{Signatures, signatures}
-use Rattle.prog_check.proofs.Firsts.{mapped, earlier_unit, earlier_line}
-use Rattle.prog_check.proofs.Reaching.{Reached, tells}
-
-some_is : {A : Type 0} (x y : A) → Some x ≡ Some y → x ≡ y
-some_is x y e = cc
-
-none_some : {A : Type 0} (x : A) → None ≡ Some x → ⊥
-none_some x e = cc
+use Rattle.prog_check.proofs.Firsts.{mapped, earlier_line}
+use Rattle.prog_check.proofs.Reaching.{some_is, none_some, chain_inside, found_led, led_found}
+use Rattle.prog_check.proofs.Turning.{callers_long, chain_back, chain_of}
+use Rattle.prog_check.proofs.Ranking.{level_back}
 
 not_true : false ≡ true → ⊥
 not_true h = cc
@@ -64,81 +60,78 @@ get_flag (b ∷ s) zero e = some_is b true e
 get_flag (b ∷ s) (suc x) e = get_flag s x e
 
 module _ (all : Rows) where
-  leads_is : (row : List Edge) (x : ℕ) → x < length all → leads_to all row x ≡ true → Reached all row x
-  leads_is row x l e = (tells all row x l).to (flag_get (led_to all row).seen x e)
-
-  leads_from : (row : List Edge) (x : ℕ) → x < length all → Reached all row x → leads_to all row x ≡ true
-  leads_from row x l r = get_flag (led_to all row).seen x ((tells all row x l).from r)
-
-  Leading : Edge → ℕ → Type 0
-  Leading e x = Reached all (e ∷ []) x
+  -- A site with this edge leads back to the unit.
+  record EdgeBack (unit : ℕ) (e : Edge) : Type 0 where
+    next : ℕ
+    target : e.target ≡ Some next
+    leads : Leads all unit next
 
   record FirstLine (unit : ℕ) (row : List Edge) (line : ℕ) : Type 0 where
     at : ℕ
     edge : Edge
     stands : slice_get row at ≡ Some edge
     line_is : edge.line ≡ line
-    leads : Reached all (edge ∷ []) unit
-    before : (o : ℕ) (e : Edge) → o < at → slice_get row o ≡ Some e → Reached all (e ∷ []) unit → ⊥
+    leads : EdgeBack unit edge
+    before : (o : ℕ) (e : Edge) → o < at → slice_get row o ≡ Some e → EdgeBack unit e → ⊥
 
   abbrev Told : ℕ → List Edge → Option ℕ → Type 0
-  Told unit row None = (o : ℕ) (e : Edge) → slice_get row o ≡ Some e → Reached all (e ∷ []) unit → ⊥
+  Told unit row None = (o : ℕ) (e : Edge) → slice_get row o ≡ Some e → EdgeBack unit e → ⊥
   Told unit row (Some line) = FirstLine unit row line
 
-  first_or : (unit : ℕ) (e : Edge) (row : List Edge) → (Reached all (e ∷ []) unit → ⊥) → (found : Option ℕ) → Told unit row found → Told unit (e ∷ row) found
+  first_or : (unit : ℕ) (e : Edge) (row : List Edge) → (EdgeBack unit e → ⊥) → (found : Option ℕ) → Told unit row found → Told unit (e ∷ row) found
   first_or unit e row n None h = at
     where
-      at : (o : ℕ) (d : Edge) → slice_get (e ∷ row) o ≡ Some d → Reached all (d ∷ []) unit → ⊥
-      at zero d s r = n (subst (λ x. Reached all (x ∷ []) unit) (sym (some_is e d s)) r)
+      at : (o : ℕ) (d : Edge) → slice_get (e ∷ row) o ≡ Some d → EdgeBack unit d → ⊥
+      at zero d s r = n (subst (λ x. EdgeBack unit x) (sym (some_is e d s)) r)
       at (suc o) d s r = h o d s r
   first_or unit e row n (Some line) h = record { at = suc h.at; edge = h.edge; stands = h.stands; line_is = h.line_is; leads = h.leads; before = before }
     where
-      before : (o : ℕ) (d : Edge) → o < suc h.at → slice_get (e ∷ row) o ≡ Some d → Reached all (d ∷ []) unit → ⊥
-      before zero d l s r = n (subst (λ x. Reached all (x ∷ []) unit) (sym (some_is e d s)) r)
+      before : (o : ℕ) (d : Edge) → o < suc h.at → slice_get (e ∷ row) o ≡ Some d → EdgeBack unit d → ⊥
+      before zero d l s r = n (subst (λ x. EdgeBack unit x) (sym (some_is e d s)) r)
       before (suc o) d l s r = h.before o d (omega arith) s r
 
-  first_told : (unit : ℕ) → unit < length all → (row : List Edge) → Told unit row (first_line all unit row)
+  seen_back : (unit : ℕ) (e : Edge) (o : Option ℕ) → e.target ≡ o → is_seen (led_to (callers all) unit).seen o ≡ true → EdgeBack unit e
+  seen_back unit e None i h = absurd (not_true h)
+  seen_back unit e (Some x) i h = record { next = x; target = i; leads = chain_of all x unit (found_led (callers all) unit x (flag_get (led_to (callers all) unit).seen x h)) }
+
+  back_seen : (unit : ℕ) → unit < length all → (e : Edge) (o : Option ℕ) → e.target ≡ o → EdgeBack unit e → is_seen (led_to (callers all) unit).seen o ≡ true
+  back_seen unit l e None i b = absurd (none_some b.next (sym i ∙ b.target))
+  back_seen unit l e (Some x) i b =
+      let same : b.next ≡ x = some_is b.next x (sym b.target ∙ i) in
+      let inside : b.next < length (callers all) = omega (arith, callers_long all, chain_inside all unit b.next b.leads l) in
+      get_flag (led_to (callers all) unit).seen x (subst (λ y. slice_get (led_to (callers all) unit).seen y ≡ Some true) same (led_found (callers all) unit b.next inside (chain_back all unit b.next b.leads l)))
+
+  first_told : (unit : ℕ) → unit < length all → (row : List Edge) → Told unit row (first_line (led_to (callers all) unit).seen row)
   first_told unit l [] = λ o e s r. none_some e s
-  first_told unit l (e ∷ row) = go (leads_to all (e ∷ []) unit) refl (first_told unit l row)
+  first_told unit l (e ∷ row) = go (is_seen (led_to (callers all) unit).seen e.target) refl (first_told unit l row)
     where
-      go : (b : Bool) → leads_to all (e ∷ []) unit ≡ b → Told unit row (first_line all unit row) → Told unit (e ∷ row) (if b then Some e.line else first_line all unit row)
-      go true i h = record { at = 0; edge = e; stands = refl; line_is = refl; leads = leads_is (e ∷ []) unit l i; before = λ o d below s r. omega (arith, below) }
-      go false i h = first_or unit e row (λ r. not_true (sym i ∙ leads_from (e ∷ []) unit l r)) (first_line all unit row) h
+      go : (b : Bool) → is_seen (led_to (callers all) unit).seen e.target ≡ b → Told unit row (first_line (led_to (callers all) unit).seen row)
+          → Told unit (e ∷ row) (if b then Some e.line else first_line (led_to (callers all) unit).seen row)
+      go true i h = record { at = 0; edge = e; stands = refl; line_is = refl; leads = seen_back unit e e.target refl i; before = λ o d below s r. omega (arith, below) }
+      go false i h = first_or unit e row (λ r. not_true (sym i ∙ back_seen unit l e e.target refl r)) (first_line (led_to (callers all) unit).seen row) h
 
-  -- what one of the sites leads to, all of them lead to
-  of_row : (row : List Edge) (o : ℕ) (e : Edge) (x : ℕ) → slice_get row o ≡ Some e → Reached all (e ∷ []) x → Reached all row x
-  of_row row o e x s r = record { next = r.next; seed = at r.seed.at r.seed.edge r.seed.stands r.seed.leads; leads = r.leads }
+  line_told : (ranks : List ℕ) → NoneLeadUp all ranks → (unit : ℕ) → unit < length all → (row : List Edge) → slice_get all unit ≡ Some row → Told unit row (cycle_line (callers all) ranks unit row)
+  line_told ranks falling unit l row s = go (may_cycle ranks unit row) refl
     where
-      at : (k : ℕ) (d : Edge) → slice_get (e ∷ []) k ≡ Some d → d.target ≡ Some r.next → Targets row r.next
-      at zero d t i = record { at = o; edge = d; stands = s ∙ t; leads = i }
-      at (suc k) d t i = absurd (none_some d t)
-
-  line_told : (unit : ℕ) → unit < length all → (row : List Edge) → Told unit row (cycle_line all unit row)
-  line_told unit l row = go (leads_to all row unit) refl
-    where
-      go : (b : Bool) → leads_to all row unit ≡ b → Told unit row (if b then first_line all unit row else None)
+      go : (b : Bool) → may_cycle ranks unit row ≡ b → Told unit row (if b then first_line (led_to (callers all) unit).seen row else None)
       go true i = first_told unit l row
-      go false i = λ o e s r. not_true (sym i ∙ leads_from row unit l (of_row row o e unit s r))
+      go false i = λ o e c r. not_true (sym i ∙ level_back all ranks falling unit row o e r.next s c r.target r.leads)
 
   -- ---- sites that lead back
 
-  back_of : (unit : ℕ) (row : List Edge) (o : ℕ) (e : Edge) → slice_get all unit ≡ Some row → slice_get row o ≡ Some e → Reached all (e ∷ []) unit → LeadsBack all unit o
-  back_of unit row o e s c r = at r.seed.at r.seed.edge r.seed.stands r.seed.leads
-    where
-      at : (k : ℕ) (d : Edge) → slice_get (e ∷ []) k ≡ Some d → d.target ≡ Some r.next → LeadsBack all unit o
-      at zero d t i = record { row = row; stands = s; edge = d; calls = c ∙ t; next = r.next; leads = i; back = r.leads }
-      at (suc k) d t i = absurd (none_some d t)
+  back_of : (unit : ℕ) (row : List Edge) (o : ℕ) (e : Edge) → slice_get all unit ≡ Some row → slice_get row o ≡ Some e → EdgeBack unit e → LeadsBack all unit o
+  back_of unit row o e s c b = record { row = row; stands = s; edge = e; calls = c; next = b.next; leads = b.target; back = b.leads }
 
   record BackIn (unit : ℕ) (row : List Edge) (o : ℕ) : Type 0 where
     edge : Edge
     calls : slice_get row o ≡ Some edge
-    leads : Reached all (edge ∷ []) unit
+    leads : EdgeBack unit edge
 
   back_in : (unit : ℕ) (row : List Edge) (o : ℕ) → slice_get all unit ≡ Some row → LeadsBack all unit o → BackIn unit row o
   back_in unit row o s b = record {
     edge = b.edge;
     calls = ap (λ r. slice_get r o) (some_is row b.row (sym s ∙ b.stands)) ∙ b.calls;
-    leads = record { next = b.next; seed = record { at = 0; edge = b.edge; stands = refl; leads = b.leads }; leads = b.back };
+    leads = record { next = b.next; target = b.leads; leads = b.back };
   }
 
   -- ---- the first unit
@@ -198,9 +191,9 @@ module _ (all : Rows) where
         ]
       ]
 
-  cycles_from : (place : ℕ) (rest : Rows) → ((k : ℕ) → slice_get rest k ≡ slice_get all (place + k)) → Earliest (CycleAt place) (first_cycle all place rest)
-  cycles_from place [] s = λ m c. none_some c.row (s (c.unit - place) ∙ (ap (slice_get all) (omega (arith, c.from)) ∙ c.stands))
-  cycles_from place (row ∷ rest) s = go (cycle_line all place row) (line_told place inside row) (first_cycle all (suc place) rest) (cycles_from (suc place) rest (λ k. s (suc k) ∙ ap (slice_get all) (omega arith)))
+  cycles_from : (ranks : List ℕ) → NoneLeadUp all ranks → (place : ℕ) (rest : Rows) → ((k : ℕ) → slice_get rest k ≡ slice_get all (place + k)) → Earliest (CycleAt place) (first_cycle (callers all) ranks place rest)
+  cycles_from ranks falling place [] s = λ m c. none_some c.row (s (c.unit - place) ∙ (ap (slice_get all) (omega (arith, c.from)) ∙ c.stands))
+  cycles_from ranks falling place (row ∷ rest) s = go (cycle_line (callers all) ranks place row) (line_told ranks falling place inside row here) (first_cycle (callers all) ranks (suc place) rest) (cycles_from ranks falling (suc place) rest (λ k. s (suc k) ∙ ap (slice_get all) (omega arith)))
     where
       here : slice_get all place ≡ Some row
       here = ap (slice_get all) (omega arith) ∙ sym (s 0)
@@ -295,8 +288,10 @@ edge_at all [] k s i = absurd (none_some s i)
 edge_at all (t ∷ ss) zero s i = ap (λ x. Some (edge all x)) (some_is t s i)
 edge_at all (t ∷ ss) (suc k) s i = edge_at all ss k s i
 
-pub cycle_found : (units : List SourceUnit) (mark : Option ProgramMark) → mark ≡ first_cycle (rows units) 0 (rows units) → Earliest (HasCycle units) mark
-cycle_found units mark e = subst (Earliest (HasCycle units)) (sym e) (mapped (CycleAt (rows units) 0) (HasCycle units) (first_cycle (rows units) 0 (rows units)) to from (cycles_from (rows units) 0 (rows units) (λ k. ap (slice_get (rows units)) (omega arith))))
+pub cycle_found : (units : List SourceUnit) (ranks : List ℕ) → NoneLeadUp (rows units) ranks → (mark : Option ProgramMark) → mark ≡ first_cycle (callers (rows units)) ranks 0 (rows units) → Earliest (HasCycle units) mark
+cycle_found units ranks falling mark e =
+    subst (Earliest (HasCycle units)) (sym e)
+    (mapped (CycleAt (rows units) 0) (HasCycle units) (first_cycle (callers (rows units)) ranks 0 (rows units)) to from (cycles_from (rows units) ranks falling 0 (rows units) (λ k. ap (slice_get (rows units)) (omega arith))))
   where
     to : (m : ProgramMark) → CycleAt (rows units) 0 m → HasCycle units m
     to m c =

@@ -10,5 +10,8 @@ pub mod Telling
 pub mod Storage
 pub mod Limiting
 pub mod Reaching
+pub mod Turning
+pub mod Ranking
 pub mod Cycling
+pub mod Agreeing
 pub mod Verdicts

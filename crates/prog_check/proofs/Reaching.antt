@@ -1,5 +1,5 @@
--- What a search finds is what the sites of its start lead to.
-use Rattle.std.proofs.Common.{◌≡◌, ℕ, zero, suc, ◌+◌, ◌<◌, ◌≤◌, List, [], ◌∷◌, ◌++◌, Bool, true, false, Some, None, length, map, fold, get_or, refl, sym, subst, ap, ◌∙◌, ◌⊎◌, inl, inr, arith, if◌then◌else◌}
+-- What a search finds is what chains lead to from its start.
+use Rattle.std.proofs.Common.{◌≡◌, ℕ, zero, suc, ◌+◌, ◌<◌, ◌≤◌, List, [], ◌∷◌, ◌++◌, Bool, true, false, Some, None, length, map, fold, refl, sym, subst, ap, ◌∙◌, ◌⊎◌, inl, inr, arith, if◌then◌else◌}
 use Rattle.std.specs.declared.option.Option.{Option}
 use Rattle.std.specs.Prelude.{nat_lt, unwrap_or, slice_set, slice_index_or}
 use Rattle.std.specs.List.{slice_get}
@@ -9,10 +9,10 @@ use Rattle.prog_check.specs.declared.cycles.Edge.{Edge}
 use Rattle.prog_check.specs.Cycles.{Rows, Targets, Calls, Leads, here, by}
 use Rattle.prog_check.specs.Searching.{Search, mark, mark_target, visit, row_at, step, explore, blank, led_to}
 
-some_is : {A : Type 0} (x y : A) → Some x ≡ Some y → x ≡ y
+pub some_is : {A : Type 0} (x y : A) → Some x ≡ Some y → x ≡ y
 some_is x y e = cc
 
-none_some : {A : Type 0} (x : A) → None ≡ Some x → ⊥
+pub none_some : {A : Type 0} (x : A) → None ≡ Some x → ⊥
 none_some x e = cc
 
 -- ---- lists
@@ -29,10 +29,10 @@ less_seen (false ∷ s) zero e = refl
 less_seen (true ∷ s) (suc x) e = less_seen s x e
 less_seen (false ∷ s) (suc x) e = ap suc (less_seen s x e)
 
-set_long : (s : List Bool) (x : ℕ) → length (slice_set s x true) ≡ length s
-set_long [] x = refl
-set_long (b ∷ s) zero = refl
-set_long (b ∷ s) (suc x) = ap suc (set_long s x)
+pub set_long : {A : Type 0} (s : List A) (x : ℕ) (a : A) → length (slice_set s x a) ≡ length s
+set_long [] x a = refl
+set_long (b ∷ s) zero a = refl
+set_long (b ∷ s) (suc x) a = ap suc (set_long s x a)
 
 set_here : (s : List Bool) (x : ℕ) (b : Bool) → slice_get s x ≡ Some b → slice_get (slice_set s x true) x ≡ Some true
 set_here [] x b e = absurd (none_some b e)
@@ -57,16 +57,16 @@ push_long : (q : List ℕ) (x : ℕ) → length (q ++ x ∷ []) ≡ suc (length 
 push_long [] x = refl
 push_long (y ∷ q) x = ap suc (push_long q x)
 
-push_kept : (q : List ℕ) (x k y : ℕ) → slice_get q k ≡ Some y → slice_get (q ++ x ∷ []) k ≡ Some y
+pub push_kept : {A : Type 0} (q : List A) (x : A) (k : ℕ) (y : A) → slice_get q k ≡ Some y → slice_get (q ++ x ∷ []) k ≡ Some y
 push_kept [] x k y e = absurd (none_some y e)
 push_kept (z ∷ q) x zero y e = e
 push_kept (z ∷ q) x (suc k) y e = push_kept q x k y e
 
-push_last : (q : List ℕ) (x : ℕ) → slice_get (q ++ x ∷ []) (length q) ≡ Some x
+pub push_last : {A : Type 0} (q : List A) (x : A) → slice_get (q ++ x ∷ []) (length q) ≡ Some x
 push_last [] x = refl
 push_last (z ∷ q) x = push_last q x
 
-push_new : (q : List ℕ) (x k y : ℕ) → slice_get (q ++ x ∷ []) k ≡ Some y → (slice_get q k ≡ Some y) ⊎ ((k ≡ length q) × (x ≡ y))
+pub push_new : {A : Type 0} (q : List A) (x : A) (k : ℕ) (y : A) → slice_get (q ++ x ∷ []) k ≡ Some y → (slice_get q k ≡ Some y) ⊎ ((k ≡ length q) × (x ≡ y))
 push_new [] x zero y e = inr (refl, some_is x y e)
 push_new [] x (suc k) y e = absurd (none_some y e)
 push_new (z ∷ q) x zero y e = inl e
@@ -97,16 +97,13 @@ one_more all x y _ (by m next d l) c = by m next d (one_more all x y next l c)
 caller_inside : (all : Rows) (x y : ℕ) → Calls all x y → x < length all
 caller_inside all x y c = slice_get_within all x c.row c.stands
 
-chain_inside : (all : Rows) (x m : ℕ) → Leads all x m → x < length all → m < length all
+pub chain_inside : (all : Rows) (x m : ℕ) → Leads all x m → x < length all → m < length all
 chain_inside all x _ here h = h
 chain_inside all x _ (by m next c l) h = caller_inside all m next c
 
-module _ (all : Rows) (seeds : List Edge) where
-  -- a site of the start leads to it
-  pub record Reached (x : ℕ) : Type 0 where
-    pub next : ℕ
-    pub seed : Targets seeds next
-    pub leads : Leads all x next
+module _ (all : Rows) (start : ℕ) where
+  abbrev Reached : ℕ → Type 0
+  Reached x = Leads all x start
 
   abbrev Flagged : Search → ℕ → Type 0
   Flagged s x = slice_get s.seen x ≡ Some true
@@ -146,7 +143,7 @@ module _ (all : Rows) (seeds : List Edge) where
   put_marks i s x w h r e = record {
     holds = record {
       total = omega (arith, h.total, less_seen s.seen x e, push_long s.queue x);
-      long = set_long s.seen x ∙ h.long;
+      long = set_long s.seen x true ∙ h.long;
       sound = λ y f. sound y f.at f.is;
       queued = queued;
       flags = λ y f. flags y f.at f.is;
@@ -255,7 +252,7 @@ module _ (all : Rows) (seeds : List Edge) where
   steps i s h (Some x) e =
       let inside : i < length s.queue = slice_get_within s.queue i x e in
       let reached = h.sound x (record { at = i; is = e }) in
-      let v = visits i s (row_at all x) (omega (arith, inside)) h (λ y t. record { next = reached.next; seed = reached.seed; leads = one_more all x y reached.next reached.leads (row_calls x y (slice_get all x) refl t) }) in
+      let v = visits i s (row_at all x) (omega (arith, inside)) h (λ y t. one_more all x y start reached (row_calls x y (slice_get all x) refl t)) in
       record {
         holds = record { total = v.holds.total; long = v.holds.long; sound = v.holds.sound; queued = v.holds.queued; flags = v.holds.flags; done = λ q z y l f c b. past v q z y l f c b };
         keeps = v.keeps;
@@ -304,15 +301,13 @@ module _ (all : Rows) (seeds : List Edge) where
       let n : next < length all = chain_inside all x next d l in
       closed s h x next d l (h.done at.at m next (omega (arith, inside, h.total)) at.is c n)
 
-  pub record Tells (x : ℕ) : Type 0 where
-    pub to : slice_get (led_to all seeds).seen x ≡ Some true → Reached x
-    pub from : Reached x → slice_get (led_to all seeds).seen x ≡ Some true
+  explored : Explored (mark (blank all) start) (led_to all start)
+  explored = explores (length all) 0 (mark (blank all) start) (marks 0 (blank all) start (omega arith) starts here).holds (omega arith)
 
-  pub tells : (x : ℕ) → x < length all → Tells x
-  tells x l =
-      let v = visits 0 (blank all) seeds (omega arith) starts (λ y t. record { next = y; seed = t; leads = here }) in
-      let e = explores (length all) 0 (fold visit (blank all) seeds) v.holds (omega arith) in
-      record {
-        to = λ f. e.holds.sound x (e.holds.queued x f);
-        from = λ r. closed (led_to all seeds) e.holds x r.next r.leads l (e.keeps.flagged r.next (v.flagged r.next r.seed (chain_inside all x r.next r.leads l)));
-      }
+  -- Each unit that was found is led to.
+  pub found_led : (x : ℕ) → Flagged (led_to all start) x → Leads all x start
+  found_led x f = explored.holds.sound x (explored.holds.queued x f)
+
+  -- Each unit that is led to was found.
+  pub led_found : (x : ℕ) → x < length all → Leads all x start → Flagged (led_to all start) x
+  led_found x l r = closed (led_to all start) explored.holds x start r l (explored.keeps.flagged start ((marks 0 (blank all) start (omega arith) starts here).flagged (chain_inside all x start r l)))

@@ -9,3 +9,4 @@ pub mod Cycles
 pub mod Scans
 pub mod ProgramFaults
 pub mod Searching
+pub mod Sites

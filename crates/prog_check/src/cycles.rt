@@ -1,6 +1,5 @@
 //! Units that call themselves, directly or through others.
-ghost use Rattle.std.specs.Prelude.{◌≡◌, ◌++◌, ◌∷◌, [], ℕ, List as Lists, Bool, map, fold, false, IfOk, OnOk};
-ghost use Rattle.std.specs.List.{slice_get};
+ghost use Rattle.std.specs.Prelude.{◌≡◌, ◌++◌, map, List as Lists, IfOk, OnOk};
 ghost use Rattle.f77_tree.specs.declared.unit.Unit.{Unit as AnyUnit};
 ghost use Rattle.prog_check.specs.Cycles as c;
 ghost use Rattle.prog_check.specs.Marks as k;
@@ -8,10 +7,13 @@ ghost use Rattle.prog_check.specs.Mentions as m;
 ghost use Rattle.prog_check.specs.Searching as h;
 ghost use Rattle.prog_check.specs.Signatures as g;
 
+use super::callers::callers_of;
 use super::marks::ProgramMark;
 use super::mentions::{Mention, Site};
 use super::programs::Program;
+use super::ranks::{may_cycle, ranks_of};
 use super::scans::mark_at;
+use super::searches::led_to;
 use super::signatures::Signature;
 use f77_store::Table;
 use f77_tree::List;
@@ -80,164 +82,55 @@ fn rows_of(
     Ok(rows)
 }
 
-fn mark(seen: &mut Vec<bool>, queue: &mut Vec<usize>, x: usize) -> Result<(), AllocError>
-    ensures { OnOk result (h.search seen.new.items queue.new.items ≡ h.mark (h.search seen.old.items queue.old.items) x) }
+fn is_seen(seen: &Vec<bool>, target: Option<usize>) -> bool
+    ensures { result ≡ h.is_seen seen.now.items target }
 {
+    let Some(x) = target else {
+        return false;
+    };
     if x >= seen.len() {
-        return Ok(());
+        return false;
     }
-    if seen[x] {
-        return Ok(());
-    }
-    queue.push(x)?;
-    seen[x] = true;
-    Ok(())
+    seen[x]
 }
 
-fn mark_target(
-    seen: &mut Vec<bool>,
-    queue: &mut Vec<usize>,
-    target: Option<usize>,
-) -> Result<(), AllocError>
-    ensures { OnOk result (h.search seen.new.items queue.new.items ≡ h.mark_target (h.search seen.old.items queue.old.items) target) }
-{
-    match target {
-        Some(x) => mark(seen, queue, x),
-        None => Ok(()),
-    }
-}
-
-fn visit_all(
-    seen: &mut Vec<bool>,
-    queue: &mut Vec<usize>,
-    row: &List<Edge>,
-) -> Result<(), AllocError>
-    ensures { OnOk result (h.search seen.new.items queue.new.items ≡ fold h.visit (h.search seen.old.items queue.old.items) row.now) }
+fn first_line(seen: &Vec<bool>, row: &List<Edge>) -> Option<u32>
+    ensures { result ≡ h.first_line seen.now.items row.now }
 {
     for e in row.as_slice() {
-        mark_target(seen, queue, e.target)?;
-    }
-    Ok(())
-}
-
-fn visit_row(
-    rows: &List<List<Edge>>,
-    seen: &mut Vec<bool>,
-    queue: &mut Vec<usize>,
-    x: usize,
-) -> Result<(), AllocError>
-    ensures { OnOk result (h.search seen.new.items queue.new.items ≡ fold h.visit (h.search seen.old.items queue.old.items) (h.row_at rows.now x)) }
-{
-    match rows.as_slice().get(x) {
-        Some(row) => visit_all(seen, queue, row),
-        None => Ok(()),
-    }
-}
-
-fn at(queue: &Vec<usize>, i: usize) -> Option<usize>
-    ensures { result ≡ slice_get queue.now.items i }
-{
-    match queue.as_slice().get(i) {
-        Some(x) => Some(*x),
-        None => None,
-    }
-}
-
-fn step(
-    rows: &List<List<Edge>>,
-    seen: &mut Vec<bool>,
-    queue: &mut Vec<usize>,
-    i: usize,
-) -> Result<(), AllocError>
-    ensures { OnOk result (h.search seen.new.items queue.new.items ≡ h.step rows.now (h.search seen.old.items queue.old.items) (slice_get queue.old.items i)) }
-{
-    match at(queue, i) {
-        Some(x) => visit_row(rows, seen, queue, x),
-        None => Ok(()),
-    }
-}
-
-fn blank(alloc: Global, rows: &List<List<Edge>>) -> Result<Vec<bool>, AllocError>
-    ensures { IfOk result (λ v. v.items ≡ map (λ _. false) rows.now) }
-{
-    rows.as_slice().iter().map(|_| false).collect(alloc)
-}
-
-fn led_to(alloc: Global, rows: &List<List<Edge>>, row: &List<Edge>) -> Result<Vec<bool>, AllocError>
-    ensures { IfOk result (λ v. v.items ≡ (h.led_to rows.now row.now).seen) }
-{
-    let mut seen = blank(alloc, rows)?;
-    let mut queue = Vec::new(alloc);
-    visit_all(&mut seen, &mut queue, row)?;
-    for i in 0..rows.len() {
-        step(rows, &mut seen, &mut queue, i)?;
-    }
-    Ok(seen)
-}
-
-fn leads_to(
-    alloc: Global,
-    rows: &List<List<Edge>>,
-    row: &List<Edge>,
-    unit: usize,
-) -> Result<bool, AllocError>
-    ensures { IfOk result (λ b. b ≡ h.leads_to rows.now row.now unit) }
-{
-    let seen = led_to(alloc, rows, row)?;
-    if unit >= seen.len() {
-        return Ok(false);
-    }
-    Ok(seen[unit])
-}
-
-fn edge_leads(
-    alloc: Global,
-    rows: &List<List<Edge>>,
-    e: Edge,
-    unit: usize,
-) -> Result<bool, AllocError>
-    ensures { IfOk result (λ b. b ≡ h.leads_to rows.now (e ∷ []) unit) }
-{
-    let mut one = List::new(alloc);
-    one.push(e)?;
-    leads_to(alloc, rows, &one, unit)
-}
-
-fn first_line(
-    alloc: Global,
-    rows: &List<List<Edge>>,
-    unit: usize,
-    row: &List<Edge>,
-) -> Result<Option<u32>, AllocError>
-    ensures { IfOk result (λ line. line ≡ h.first_line rows.now unit row.now) }
-{
-    for e in row.as_slice() {
-        if edge_leads(alloc, rows, *e, unit)? {
-            return Ok(Some(e.line));
+        if is_seen(seen, e.target) {
+            return Some(e.line);
         }
     }
-    Ok(None)
+    None
 }
 
 fn cycle_line(
     alloc: Global,
-    rows: &List<List<Edge>>,
-    unit: usize,
+    callers: &List<List<Edge>>,
+    ranks: &Vec<usize>,
+    place: usize,
     row: &List<Edge>,
 ) -> Result<Option<u32>, AllocError>
-    ensures { IfOk result (λ line. line ≡ h.cycle_line rows.now unit row.now) }
+    ensures { IfOk result (λ line. line ≡ h.cycle_line callers.now ranks.now.items place row.now) }
 {
-    if leads_to(alloc, rows, row, unit)? {
-        return first_line(alloc, rows, unit, row);
+    if !may_cycle(ranks, place, row) {
+        return Ok(None);
     }
-    Ok(None)
+    let leading = led_to(alloc, callers, place)?;
+    Ok(first_line(&leading, row))
 }
 
-fn first_cycle(alloc: Global, rows: &List<List<Edge>>) -> Result<Option<ProgramMark>, AllocError>
-    ensures { IfOk result (λ mark. mark ≡ h.first_cycle rows.now 0 rows.now) }
+fn first_cycle(
+    alloc: Global,
+    callers: &List<List<Edge>>,
+    ranks: &Vec<usize>,
+    rows: &List<List<Edge>>,
+) -> Result<Option<ProgramMark>, AllocError>
+    ensures { IfOk result (λ mark. mark ≡ h.first_cycle callers.now ranks.now.items 0 rows.now) }
 {
     for (place, row) in rows.as_slice().iter().enumerate() {
-        let found = cycle_line(alloc, rows, place, row)?;
+        let found = cycle_line(alloc, callers, ranks, place, row)?;
         if let Some(line) = found {
             return Ok(Some(mark_at(34, 0, Some(place), line)));
         }
@@ -245,10 +138,18 @@ fn first_cycle(alloc: Global, rows: &List<List<Edge>>) -> Result<Option<ProgramM
     Ok(None)
 }
 
+fn rows_fault(alloc: Global, rows: &List<List<Edge>>) -> Result<Option<ProgramMark>, AllocError>
+    ensures { (units : Lists AnyUnit) → rows.now ≡ c.rows units → IfOk result (λ mark. k.Earliest (c.HasCycle units) mark) }
+{
+    let callers = callers_of(alloc, rows)?;
+    let ranks = ranks_of(alloc, rows, &callers)?;
+    first_cycle(alloc, &callers, &ranks, rows)
+}
+
 /// The fault 34: the first unit from which a chain of sites leads back to it, at its first site that does.
 pub fn cycle_fault(alloc: Global, program: &Program) -> Result<Option<ProgramMark>, AllocError>
     ensures { (units : Lists AnyUnit) → program.now.signatures ≡ g.signatures units → program.now.texts ≡ map m.mentions units → IfOk result (λ mark. k.Earliest (c.HasCycle units) mark) }
 {
     let rows = rows_of(alloc, &program.signatures, &program.texts)?;
-    first_cycle(alloc, &rows)
+    rows_fault(alloc, &rows)
 }

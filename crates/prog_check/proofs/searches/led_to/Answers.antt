@@ -1,7 +1,7 @@
 use Rattle.std.proofs.Common.{sym, ◌∙◌, arith}
 use Rattle.prog_check.specs.Searching.{search}
 use Rattle.prog_check.proofs.Cycling.{explore_more}
-use Rattle.prog_check.proofs.cycles.led_to.Goals as goal
+use Rattle.prog_check.proofs.searches.led_to.Goals as goal
 
 pub loop-i-preserved : goal.loop-i-preserved
 loop-i-preserved c =
