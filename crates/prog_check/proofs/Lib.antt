@@ -9,6 +9,7 @@ pub mod Stepping
 pub mod Telling
 pub mod Storage
 pub mod Limiting
+pub mod Initialising
 pub mod Reaching
 pub mod Turning
 pub mod Ranking

@@ -6,6 +6,7 @@ pub mod Shown
 pub mod Mains
 pub mod Limits
 pub mod Cycles
+pub mod Initialised
 pub mod Scans
 pub mod ProgramFaults
 pub mod Searching

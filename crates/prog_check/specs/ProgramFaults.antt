@@ -14,6 +14,7 @@ use Rattle.prog_check.specs.Mains.{LacksMain, IsLaterMain}
 use Rattle.prog_check.specs.Limits.{HasManyUnits, Passes, HasMuchStorage, measured, most_tokens, most_weight}
 use Rattle.prog_check.specs.declared.limits.Measure.TheVariants.{Tokens, Weight}
 use Rattle.prog_check.specs.Cycles.{HasCycle}
+use Rattle.prog_check.specs.Initialised.{IsInitialisedAgain}
 
 -- a main program that lacks, or is there twice
 pub data MainFaults (units : List Unit) (mark : ProgramMark) : Type 0 where
@@ -35,10 +36,11 @@ pub data CallFaults (units : List Unit) (mark : ProgramMark) : Type 0 where
   by_text : TextFaults units mark → CallFaults units mark
   by_cycle : HasCycle units mark → CallFaults units mark
 
--- any fault of a program, 27 to 35 and 37
+-- any fault of a program, 27 to 37
 pub data ProgramShows (units : List Unit) (mark : ProgramMark) : Type 0 where
   mains : MainFaults units mark → ProgramShows units mark
   calls : CallFaults units mark → ProgramShows units mark
+  initialised : IsInitialisedAgain units mark → ProgramShows units mark
   limits : LimitFaults units mark → ProgramShows units mark
 
 abbrev pub name_at : List Unit → Option ℕ → Option Name

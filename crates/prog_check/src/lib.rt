@@ -6,6 +6,7 @@ ghost use Rattle.prog_check.specs.Sites.{SitesAreCallees};
 mod callers;
 mod checks;
 mod cycles;
+mod initialised;
 mod limits;
 mod marks;
 mod mentions;
@@ -19,6 +20,7 @@ mod verdict;
 
 pub use checks::Check;
 pub use cycles::{Edge, cycle_fault};
+pub use initialised::initial_fault;
 pub use limits::{Measure, limit_fault};
 pub use marks::{ProgramMark, first_of};
 pub use mentions::{Actual, Mention, Site, Wanted};

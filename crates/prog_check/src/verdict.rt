@@ -4,6 +4,7 @@ ghost use Rattle.prog_check.specs.Marks as k;
 ghost use Rattle.prog_check.specs.ProgramFaults as p;
 
 use super::cycles::cycle_fault;
+use super::initialised::initial_fault;
 use super::limits::limit_fault;
 use super::marks::{ProgramMark, first_of};
 use super::programs::program_of;
@@ -24,8 +25,10 @@ fn program_fault(alloc: Global, units: &[Unit]) -> Result<Option<ProgramMark>, A
     ensures { IfOk result (λ mark. k.Earliest (p.ProgramShows units.now) mark) }
 {
     let limits = limit_fault(alloc, units)?;
+    let initial = initial_fault(alloc, units)?;
+    let later = first_of(initial, limits);
     let calls = call_fault(alloc, units)?;
-    let others = first_of(calls, limits);
+    let others = first_of(calls, later);
     Ok(first_of(main_fault(units), others))
 }
 
@@ -64,7 +67,7 @@ fn refusal(alloc: Global, units: &[Unit], mark: ProgramMark) -> Refused
     }
 }
 
-/// Whether a program has none of the faults 27 to 35 and 37; or the first of them by number, then by unit, then by line.
+/// Whether a program has none of the faults 27 to 37; or the first of them by number, then by unit, then by line.
 pub fn check_program(alloc: Global, units: &[Unit]) -> Result<(), Refused>
     ensures accepted { IfOk result (λ _. p.IsAccepted units.now) }
     ensures fault { IfErr result (λ e. p.Explains e units.now) }

@@ -7,7 +7,7 @@ use std::test::Fail;
 
 /// Statements with `;` between them, a number in front being a label, and the reply. A source without a fault of its own has
 /// fault 7 at its first statement that isn't thin.
-static UNITS: [(&str, &str); 128] = [
+static UNITS: [(&str, &str); 139] = [
     // names
     ("LOGICAL L, L;END", "fault 12 MAIN line 1\n"),
     ("INTEGER K;LOGICAL K;END", "fault 12 MAIN line 2\n"),
@@ -236,6 +236,30 @@ static UNITS: [(&str, &str); 128] = [
         "fault 35 MAIN line 2\n",
     ),
     (
+        "END;BLOCK DATA A;COMMON /G/ I;DATA I /1/;END;BLOCK DATA B;COMMON /G/ J;DATA J /2/;END",
+        "fault 36 B line 3\n",
+    ),
+    (
+        "END;BLOCK DATA A;COMMON /G/ K(4);DATA K /4*0/;END;BLOCK DATA B;COMMON /G/ I, J(3);DATA J(2) /1/;END",
+        "fault 36 B line 3\n",
+    ),
+    (
+        "END;BLOCK DATA A;COMMON /G/ K(2), I;DATA K /2*0/;END;BLOCK DATA B;COMMON /G/ K(3);DATA K(3) /1/;END",
+        "fault 7 A line 1\n",
+    ),
+    (
+        "END;BLOCK DATA A;COMMON /G/ K(2, 2);DATA K(1, 2) /1/;END;BLOCK DATA B;COMMON /G/ K(2, 2);DATA K(2, 1) /1/;DATA K(1, 2) /2/;END",
+        "fault 36 B line 4\n",
+    ),
+    (
+        "END;BLOCK DATA A;COMMON /G/ I, J;DATA I /1/;END;BLOCK DATA B;COMMON /H/ I /G/ K, J;DATA I, J /1, 2/;END",
+        "fault 7 A line 1\n",
+    ),
+    (
+        "INTEGER K(4096, 4096);I = 1;END;BLOCK DATA A;COMMON /G/ I;DATA I /1/;END;BLOCK DATA B;COMMON /G/ I;DATA I /1/;END",
+        "fault 36 B line 3\n",
+    ),
+    (
         "INTEGER K(4096, 4096);I = 1;END",
         "fault 37 - line 0 limit 16777216\n",
     ),
@@ -306,7 +330,21 @@ static UNITS: [(&str, &str); 128] = [
     (
         "CALL F(1);END;INTEGER FUNCTION F(N);CALL T(1);F = N;END;SUBROUTINE T;END",
         "fault 31 F line 2\n",
+    ), // a block has the size of its largest declaration, once
+    (
+        "COMMON /A/ I(8388608);L = 1;END;SUBROUTINE S;COMMON /A/ J(5) /B/ K(8388607);END",
+        "fault 7 MAIN line 1\n",
     ),
+    (
+        "COMMON /A/ I(8388608);L = 1;M = 1;END;SUBROUTINE S;COMMON /A/ J(5) /B/ K(8388607);END",
+        "fault 37 - line 0 limit 16777216\n",
+    ),
+    (
+        "COMMON /A/ I;L = 1;END;SUBROUTINE S;COMMON /A/ J(16777216);END",
+        "fault 37 - line 0 limit 16777216\n",
+    ),
+    ("PROGRAM M;END;SUBROUTINE S;END", "fault 7 M line 1\n"),
+    ("10 I = 1;20 J = 1;END", "fault 7 MAIN line 1\n"),
 ];
 
 /// One statement on a line, with its label.
@@ -337,12 +375,12 @@ fn source(alloc: Global, statements: &str) -> Result<Vec<u8>, AllocError> {
     Ok(text)
 }
 
-/// What `one 100` replies to a source.
-fn reply(alloc: Global, statements: &str) -> Result<Vec<u8>, Fail> {
+/// What `one 100` replies to a text.
+pub(crate) fn reply(alloc: Global, text: Vec<u8>) -> Result<Vec<u8>, Fail> {
     let mut words = Vec::new(alloc);
     words.push(List::from_slice(alloc, b"one".as_slice())?)?;
     words.push(List::from_slice(alloc, b"100".as_slice())?)?;
-    let mut input = MemSource::new(source(alloc, statements)?, Vec::new(alloc));
+    let mut input = MemSource::new(text, Vec::new(alloc));
     let mut sink = MemSink::new(alloc, 200, Vec::new(alloc))?;
     let mut keep = MemKeeper::new(alloc, &[], 0, Vec::new(alloc), Vec::new(alloc))?;
     let mut tally = ListTally::new(alloc)?;
@@ -361,7 +399,7 @@ fn reply(alloc: Global, statements: &str) -> Result<Vec<u8>, Fail> {
 #[test]
 fn tells_the_first_fault(rt: HostRuntime) -> Result<(), Fail> {
     for row in &UNITS {
-        let found = reply(rt.alloc(), row.0)?;
+        let found = reply(rt.alloc(), source(rt.alloc(), row.0)?)?;
         assert_eq!(rt; found.as_slice(), row.1.as_bytes(), "at {}", row.0);
     }
     Ok(())

@@ -1,0 +1,6 @@
+mod Members
+mod Searches
+mod Apart
+mod Moving
+mod Elements
+mod Gathering

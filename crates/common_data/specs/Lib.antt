@@ -1,0 +1,4 @@
+pub mod Storage
+pub mod Initials
+pub mod Again
+pub mod Searching
