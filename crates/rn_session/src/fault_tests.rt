@@ -7,7 +7,7 @@ use std::test::Fail;
 
 /// Statements with `;` between them, a number in front being a label, and the reply. A source without a fault of its own has
 /// fault 7 at its first statement that isn't thin.
-static UNITS: [(&str, &str); 139] = [
+static UNITS: [(&str, &str); 84] = [
     // names
     ("LOGICAL L, L;END", "fault 12 MAIN line 1\n"),
     ("INTEGER K;LOGICAL K;END", "fault 12 MAIN line 2\n"),
@@ -197,6 +197,10 @@ static UNITS: [(&str, &str); 139] = [
         "END;SUBROUTINE S;GO TO 7;END;SUBROUTINE T;I =;END",
         "fault 14 S line 2\n",
     ),
+];
+
+// the same of programs, and further edges of both
+static PROGRAMS: [(&str, &str); 55] = [
     // programs
     ("SUBROUTINE S;END", "fault 27 - line 0\n"),
     ("PROGRAM M;END;I = 1;END", "fault 28 MAIN line 1\n"),
@@ -396,10 +400,25 @@ pub(crate) fn reply(alloc: Global, text: Vec<u8>) -> Result<Vec<u8>, Fail> {
     Ok(Vec::from_slice(alloc, sink.bytes())?)
 }
 
+/// What `one 100` replies to a source.
+fn first_fault(alloc: Global, statements: &str) -> Result<Vec<u8>, Fail> {
+    let text = source(alloc, statements)?;
+    reply(alloc, text)
+}
+
 #[test]
-fn tells_the_first_fault(rt: HostRuntime) -> Result<(), Fail> {
+fn tells_the_first_fault_of_units(rt: HostRuntime) -> Result<(), Fail> {
     for row in &UNITS {
-        let found = reply(rt.alloc(), source(rt.alloc(), row.0)?)?;
+        let found = first_fault(rt.alloc(), row.0)?;
+        assert_eq!(rt; found.as_slice(), row.1.as_bytes(), "at {}", row.0);
+    }
+    Ok(())
+}
+
+#[test]
+fn tells_the_first_fault_of_programs(rt: HostRuntime) -> Result<(), Fail> {
+    for row in &PROGRAMS {
+        let found = first_fault(rt.alloc(), row.0)?;
         assert_eq!(rt; found.as_slice(), row.1.as_bytes(), "at {}", row.0);
     }
     Ok(())

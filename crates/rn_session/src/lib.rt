@@ -18,4 +18,6 @@ mod against;
 #[cfg(test)]
 mod fault_tests;
 #[cfg(test)]
+mod limit_tests;
+#[cfg(test)]
 mod tests;
