@@ -1,0 +1,4 @@
+pub mod Rows
+pub mod Spots
+pub mod Held
+pub mod Cells

@@ -1,0 +1,4 @@
+pub mod Acts
+pub mod Codes
+pub mod Statements
+pub mod Entries

@@ -1,0 +1,6 @@
+pub mod Steps
+pub mod Code
+pub mod Endings
+pub mod Entries
+pub mod Denoted
+pub mod Laws
