@@ -1,0 +1,13 @@
+pub mod Lists
+pub mod Clearing
+pub mod Excluding
+pub mod Constants
+pub mod Places
+pub mod Terms
+pub mod Forms
+pub mod Wholes
+pub mod Saying
+pub mod Acyclic
+pub mod Ranks
+pub mod Naming
+pub mod Programs
