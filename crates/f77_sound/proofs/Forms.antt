@@ -4,7 +4,7 @@ use Rattle.std.specs.List.{list_any}
 use Rattle.std.proofs.lemmas.Grind.{flat_map-append}
 use Rattle.f77_tree.specs.declared.expr.Expr.{Expr, roll-Expr, out-roll-Expr, ind-Expr}
 use Rattle.f77_tree.specs.declared.expr.Expr.TheOpen.{Expr-F}
-use Rattle.f77_tree.specs.declared.form.Form.{Form, out-Form, roll-Form, out-roll-Form, ind-Form, fold-Form, fold-roll-Form}
+use Rattle.f77_tree.specs.declared.form.Form.{Form, out-Form}
 use Rattle.f77_tree.specs.declared.form.Form.TheFolds.{map-Form}
 use Rattle.f77_tree.specs.declared.form.Form.TheOpen.{Form-F}
 use Rattle.f77_tree.specs.declared.unit.Stmt.{Stmt}
@@ -35,9 +35,9 @@ use Rattle.f77_flow.specs.Blocks.{below, otherwise}
 use Rattle.f77_flow.specs.Graph.{Point, At, Inside, Test, after, leaving, simple_ways, ways, inner_ways}
 use Rattle.f77_flow.specs.Labels.{target}
 use Rattle.f77_running.specs.Program as program
-use Rattle.f77_running.specs.Program.{Base, Dummy, Own, Common, Term, Text, Terms, End, ◌and◌, Statement, Do, NoStatement, Stop, Return, Routine}
+use Rattle.f77_running.specs.Program.{Base, Dummy, Own, Common, Term, Text, Terms, End, ◌and◌, Statement, Do, Stop, Return, Routine}
 use Rattle.f77_running.specs.Terms as names
-use Rattle.f77_running.specs.Terms.{Meant, Resolved, sites_in, term_from, sites_of, terms_of, resolved, step}
+use Rattle.f77_running.specs.Terms.{Meant, Resolved, sites_in, term_from, sites_of, terms_of, resolved}
 use Rattle.f77_running.specs.Resolve.{loop, optional, simple, statement_of}
 use Rattle.f77_running.specs.Effects.{DummyItem, LocalItem, CommonItem, Item, Items, Effects, HasAll, ScalarOk, TermOk, ItemsOk, TargetOk, TargetsOk, StepOk, IsStatement, PointOk, ResultOk, StatementOk, InnerOk}
 use Rattle.f77_running.specs.Sites.{FunctionsAgree}
@@ -53,18 +53,7 @@ use Rattle.f77_sound.specs.Checked.{passing, IsUse, AllChecked, NameFits, Stands
 use Rattle.f77_sound.specs.Units.{meant_of, filled, passed, effects, actuals_at, type_at}
 use Rattle.f77_sound.proofs.Lists.{or_left, or_right, any-map, any-append, long-append, each_left, each_right, each_all, part_left, part_right, part_first, part_rest, site_within}
 use Rattle.f77_sound.proofs.Terms.{SiteFits, Sited, AllSited, Fit, AllFit, as_typed, Good, members, actuals_of, counts_of, term_fits, TargetFit, target_fits}
-
--- ---- folds over forms, one layer
-
-module _ {X : Type 0} (g : Form-F X → X) where
-  abbrev Opens : Form → Type 0
-  Opens form = fold-Form X g form ≡ g (map-Form Form X (fold-Form X g) (out-Form form))
-
-  opens_at : (x : Form-F Form) → Opens (roll-Form x)
-  opens_at x = fold-roll-Form X g x ∙ ap (λ z. g (map-Form Form X (fold-Form X g) z)) (sym (out-roll-Form x))
-
-  pub opens : (form : Form) → Opens form
-  opens = ind-Form Opens (λ x y is. opens_at x)
+use Rattle.f77_sound.proofs.Opening.{opens}
 
 -- ---- items
 

@@ -1,9 +1,9 @@
 -- The unit of a name, among the units of a program.
-use Rattle.std.proofs.Common.{◌≡◌, ℕ, zero, suc, ◌+◌, ◌⊎◌, inl, inr, Bool, true, false, cond, Some, List, [], ◌∷◌, map, fold, find, slice_get, refl, sym, ap, ◌∙◌, subst, arith}
+use Rattle.std.proofs.Common.{◌≡◌, ℕ, zero, suc, ◌+◌, ◌⊎◌, inl, inr, Bool, true, false, cond, Some, List, [], ◌∷◌, map, find, slice_get, refl, sym, ap, ◌∙◌, subst, arith}
 use Rattle.std.specs.Cmp.Lexicographic.{same_text}
 use Rattle.std.proofs.lemmas.Cmp.{nat_list_eq_equiv}
 use Rattle.f77_tree.specs.declared.unit.Unit.{Unit as SourceUnit}
-use Rattle.f77_store.specs.Names.{Name, name_eq, Told, what, with_told, with_pair}
+use Rattle.f77_store.specs.Names.{Name, name_eq}
 use Rattle.f77_running.specs.Program.{Routine}
 use Rattle.f77_running.specs.Units.{named}
 use Rattle.f77_running.specs.Source.{is_main, main_of, routine}
@@ -11,32 +11,7 @@ use Rattle.prog_check.specs.declared.signatures.Signature.{Signature}
 use Rattle.prog_check.specs.Signatures.{signature, named_from, signatures, unit_of}
 use Rattle.f77_sound.specs.Sites.{Each}
 use Rattle.f77_sound.specs.Accepted.{NamesDiffer}
-
-some_is : {A : Type 0} (x y : A) → Some x ≡ Some y → x ≡ y
-some_is x y e = cc
-
--- ---- what is told of names
-
-module _ {A : Type 0} (Q : Name × A → Type 0) where
-  told_one : (es : Told A) (k : Name) (v : A) → Each Q es → Q (k, v) → Each Q (with_told es k v)
-  told_one [] k v h q = (q, tt)
-  told_one (e ∷ es) k v h q = go (name_eq k e.0) refl (told_one es k v h.1 q)
-    where
-      go : (b : Bool) → name_eq k e.0 ≡ b → Each Q (with_told es k v) → Each Q (cond b ((e.0, v) ∷ es) (e ∷ with_told es k v))
-      go true t rest = (subst (λ n. Q (n, v)) (same_text k e.0 (sym t)) q, h.1)
-      go false t rest = (h.0, rest)
-
-  told_each : (pairs : List (Name × A)) (es : Told A) → Each Q es → Each Q pairs → Each Q (fold with_pair es pairs)
-  told_each [] es h k = h
-  told_each (p ∷ pairs) es h k = told_each pairs (with_pair es p) (told_one es p.0 p.1 h k.0) k.1
-
-  what_each : (es : Told A) (q : Name) (v : A) → Each Q es → what es q ≡ Some v → Q (q, v)
-  what_each [] q v h e = cc
-  what_each (x ∷ es) q v h e = go (name_eq q x.0) refl e (what_each es q v h.1)
-    where
-      go : (b : Bool) → name_eq q x.0 ≡ b → cond b (Some x.1) (what es q) ≡ Some v → (what es q ≡ Some v → Q (q, v)) → Q (q, v)
-      go true t e rest = subst (λ v. Q (q, v)) (some_is x.1 v e) (subst (λ n. Q (n, x.1)) (sym (same_text q x.0 (sym t))) h.0)
-      go false t e rest = rest e
+use Rattle.f77_sound.proofs.Tables.{some_is, told_each, what_each}
 
 module _ (units : List SourceUnit) where
   -- the unit of a signature

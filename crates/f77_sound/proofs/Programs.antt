@@ -41,6 +41,8 @@ use Rattle.f77_sound.specs.Units.{meant_of, type_at, effects}
 use Rattle.f77_sound.specs.Accepted.{PassesNoProcedure, IsGood, AllAreGood, NamesDiffer}
 use Rattle.f77_sound.specs.Laws.{ProgramsAreNeverStuck}
 use Rattle.f77_sound.proofs.Acyclic.{acyclic}
+use Rattle.f77_sound.proofs.Entering.{names_fit}
+use Rattle.f77_sound.proofs.Fitting.{each_fits, result_stands}
 use Rattle.f77_sound.proofs.Lists.{untrue, or_left, or_right, length-map}
 use Rattle.f77_sound.proofs.Naming.{HasUnit, unit_known, FirstOf, first_of, Spot, spot, same_unit}
 use Rattle.f77_sound.proofs.Ranks.{reach, fewer, reach_short}
@@ -123,7 +125,7 @@ module _ (units : List SourceUnit) (good : AllAreGood units) (differ : NamesDiff
       contra e = cc
 
   sound_unit : (k : ℕ) (u : SourceUnit) → slice_get units k ≡ Some u → UnitOk (routine u) (effects u)
-  sound_unit k u s = let g : IsGood u = good k u s in unit_ok u g.sound g.text (no_procedure k u s) g.names
+  sound_unit k u s = let g : IsGood u = good k u s in unit_ok u g.sound g.text (no_procedure k u s) (names_fit u g.sound g.text (no_procedure k u s))
 
   no_cycle : (place at : ℕ) → LeadsBack (rows units) place at → ⊥
   no_cycle = acyclic units (λ mark h. accepted.none mark (of_calls (by_cycle h)))
@@ -140,7 +142,7 @@ module _ (units : List SourceUnit) (good : AllAreGood units) (differ : NamesDiff
   called_sites u k s =
       let g : IsGood u = good k u s in
       let f : Facts = facts u in
-      let fits : (j : ℕ) (st : Stmt) → slice_get u.statements j ≡ Some st → Each (CallFits f) (in_statement st) = λ j st e. each_weaker (NameFits f (meant_of u) (effects u)) (CallFits f) (in_statement st) (call_fits f (meant_of u) (effects u)) (g.names.each j st e) in
+      let fits : (j : ℕ) (st : Stmt) → slice_get u.statements j ≡ Some st → Each (CallFits f) (in_statement st) = λ j st e. each_weaker (NameFits f (meant_of u) (effects u)) (CallFits f) (in_statement st) (call_fits f (meant_of u) (effects u)) (each_fits u g.sound g.text (no_procedure k u s) j st e) in
       let calling : callees u ≡ callees_with f (flat_map in_statement u.statements) = flat_map-append (callees_in f.attributes) (in_head u) (flat_map in_statement u.statements) ∙ ap (λ xs. xs ++ callees_with f (flat_map in_statement u.statements)) (head_callees f u) in
       subst (Each (SiteIn f (mentions u))) (sym calling) (statements_said f u.statements fits)
 
@@ -161,7 +163,8 @@ module _ (units : List SourceUnit) (good : AllAreGood units) (differ : NamesDiff
   typed_by u v c name s Subroutine w h = inl w
   typed_by u v c name s (Function ty) w h =
       let is : v.kind ≡ kind.Function = function_is v.kind (or_left (not (is_function v.kind)) (differs (type_of (facts v) v.name) ty) h) in
-      let x : StandsForVariable (facts v) (meant_of v) (effects v) v.name = (good c v s).names.function is in
+      let g : IsGood v = good c v s in
+      let x : StandsForVariable (facts v) (meant_of v) (effects v) v.name = result_stands v g.sound g.text is in
       go ty w x.ty (subst (λ t. differs t ty ≡ false) x.type_is (or_right (not (is_function v.kind)) (differs (type_of (facts v) v.name) ty) h)) (gives_type v v.kind is x)
     where
       go : (ty : Option Ty) → ty ≡ type_of (facts u) name → (a : Ty) → differs (Some a) ty ≡ false → type_of_result (routine v).result ≡ Some a → (type_of (facts u) name ≡ None) ⊎ (type_of_result (routine v).result ≡ type_of (facts u) name)

@@ -1,5 +1,5 @@
 -- A unit that passed its checks is as its effects say.
-use Rattle.std.proofs.Common.{◌≡◌, ℕ, zero, suc, ◌+◌, Bool, true, false, not, ◌&&◌, List, [], ◌∷◌, ◌++◌, Option, Some, None, length, map, flat_map, take, option_map, slice_get, refl, sym, ap, ◌∙◌, subst, arith, cond}
+use Rattle.std.proofs.Common.{◌≡◌, ℕ, zero, suc, ◌+◌, Bool, true, false, not, ◌&&◌, List, [], ◌∷◌, ◌++◌, Option, Some, None, length, map, flat_map, take, slice_get, refl, sym, ap, ◌∙◌, subst, arith, cond}
 use Rattle.std.specs.Prelude.{IsTrue}
 use Rattle.std.specs.List.{list_any}
 use Rattle.std.proofs.lemmas.Grind.{flat_map-append}
@@ -16,13 +16,12 @@ use Rattle.f77_store.specs.declared.roles.Facts.{Facts}
 use Rattle.f77_store.specs.Names.{Name, Told, what}
 use Rattle.f77_store.specs.Constants.{constants}
 use Rattle.f77_store.specs.Occurrences as occurring
-use Rattle.f77_store.specs.Occurrences.{Occurrences, in_statement, in_head, own_name, occurrences}
+use Rattle.f77_store.specs.Occurrences.{Occurrences, in_statement, in_head, own_name}
 use Rattle.f77_store.specs.Roles.{facts}
 use Rattle.f77_store.specs.Layouts.{callee, callees, callees_with}
 use Rattle.f77_types.specs.declared.breaks.Rule.TheVariants.{Types, Scalars, Targets, Exponents}
 use Rattle.f77_types.specs.Breaks.{form_step, form_breaks}
-use Rattle.f77_types.specs.Overreaching.{overreaches_in, overreaches}
-use Rattle.f77_types.specs.TypeFaults.{statement_breaks, BreaksAt, OverreachesAt, wrong_type, no_scalar, no_target, wrong_exponent}
+use Rattle.f77_types.specs.Overreaching.{overreaches_in}
 use Rattle.f77_types.specs.Standings.{standing_of, is_scalar}
 use Rattle.f77_types.specs.declared.standings.Standing.{Standing}
 use Rattle.f77_types.specs.declared.standings.Standing.TheVariants as standing
@@ -41,19 +40,21 @@ use Rattle.f77_running.specs.Source.{is_main, result_as, result_of, routine}
 use Rattle.f77_running.specs.Goes.{IsOne, IsVariable, CountsByVariable, DosHaveVariables, HasTurns}
 use Rattle.f77_running.proofs.Places.{follow_place}
 use Rattle.f77_running.proofs.Points.{turns_everywhere}
-use Rattle.f77_check.specs.UnitFaults.{IsSound, of_jumps, of_types}
+use Rattle.f77_check.specs.UnitFaults.{IsSound, of_jumps}
 use Rattle.prog_check.specs.Mentions as said
 use Rattle.f77_sound.specs.Sites.{Each, site_at, Part, calls_of}
 use Rattle.f77_sound.specs.Texts.{form_text_step, return_step}
 use Rattle.f77_sound.specs.Checked.{passing, NameFits, StandsFor, StandsForVariable}
 use Rattle.f77_sound.specs.Units.{meant_of, filled, sites_in, passed_by, passed, effects}
 use Rattle.f77_sound.specs.Accepted.{IsStatementOf, IsTextOf, PassesNoProcedure, NamesFit}
-use Rattle.f77_sound.proofs.Clearing.{clear}
+use Rattle.f77_sound.proofs.Clearing.{not_typed, not_scalar, not_target, not_overreaching}
 use Rattle.f77_sound.proofs.Excluding.{functions_agree}
+use Rattle.f77_sound.proofs.Fitting.{known_values}
 use Rattle.f77_sound.proofs.Lists.{or_left, or_right, any-append, part_left, part_right}
 use Rattle.f77_sound.specs.Laws.{TermsHaveTypes}
 use Rattle.f77_sound.proofs.Terms.{term_fits}
-use Rattle.f77_sound.proofs.Forms.{all_used, all_assigned, site_fits, opens, unfilled, Exponential, FormChecked, WholeFit, DoTested, statement_fit}
+use Rattle.f77_sound.proofs.Forms.{all_used, all_assigned, site_fits, unfilled, Exponential, FormChecked, WholeFit, DoTested, statement_fit}
+use Rattle.f77_sound.proofs.Opening.{opens}
 
 -- ---- what no fault says of a statement
 
@@ -99,18 +100,6 @@ module _ (u : SourceUnit) (sound : IsSound u) (text : IsTextOf u) (procedures : 
   abbrev main : Bool
   main = is_main u.kind
 
-  not_typed : (k : ℕ) (s : Stmt) → slice_get ss k ≡ Some s → statement_breaks f Types s ≡ false
-  not_typed k s e = clear ss (statement_breaks f Types) (BreaksAt f ss Types) 19 (λ m h. sound.none m (of_types (wrong_type h))) k s e (λ t. ap (option_map (statement_breaks f Types)) e ∙ ap Some t)
-
-  not_scalar : (k : ℕ) (s : Stmt) → slice_get ss k ≡ Some s → statement_breaks f Scalars s ≡ false
-  not_scalar k s e = clear ss (statement_breaks f Scalars) (BreaksAt f ss Scalars) 21 (λ m h. sound.none m (of_types (no_scalar h))) k s e (λ t. ap (option_map (statement_breaks f Scalars)) e ∙ ap Some t)
-
-  not_target : (k : ℕ) (s : Stmt) → slice_get ss k ≡ Some s → statement_breaks f Targets s ≡ false
-  not_target k s e = clear ss (statement_breaks f Targets) (BreaksAt f ss Targets) 25 (λ m h. sound.none m (of_types (no_target h))) k s e (λ t. ap (option_map (statement_breaks f Targets)) e ∙ ap Some t)
-
-  not_overreaching : (k : ℕ) (s : Stmt) → slice_get ss k ≡ Some s → overreaches f (constants (take k ss)) s ≡ false
-  not_overreaching k s e = clear ss (overreaches f (constants (take k ss))) (OverreachesAt f ss) 26 (λ m h. sound.none m (of_types (wrong_exponent h))) k s e (λ t. ap (option_map (overreaches f (constants (take k ss)))) e ∙ ap Some t)
-
   returned : (k : UnitKind) → u.kind ≡ k → ResultOk S (result_of k (meant u.name))
   returned kind.Function e =
       let x : StandsForVariable f meant S u.name = fit.function e in
@@ -133,10 +122,10 @@ module _ (u : SourceUnit) (sound : IsSound u) (text : IsTextOf u) (procedures : 
       let known : Told Value = constants (take k ss) in
       let one : IsStatementOf u s = text.each k s e in
       record {
-        types = sym (opens (form_step f f.constants Types) s.form) ∙ not_typed k s e;
-        scalars = sym (opens (form_step f f.constants Scalars) s.form) ∙ not_scalar k s e;
-        targets = sym (opens (form_step f f.constants Targets) s.form) ∙ not_target k s e;
-        exponents = exponents_at k s.line s.form (out-Form s.form) (opens (form_step f known Exponents) s.form) (not_overreaching k s e);
+        types = sym (opens (form_step f f.constants Types) s.form) ∙ not_typed u sound k s e;
+        scalars = sym (opens (form_step f f.constants Scalars) s.form) ∙ not_scalar u sound k s e;
+        targets = sym (opens (form_step f f.constants Targets) s.form) ∙ not_target u sound k s e;
+        exponents = exponents_at k s.line s.form (out-Form s.form) (opens (form_step f known Exponents) s.form) (not_overreaching u sound k s e);
         texts = sym (opens form_text_step s.form) ∙ one.texts;
         procedures = sym (ap (list_any passing) (opens (said.form_step f s.line) s.form)) ∙ any_part passing (said.in_statement f) ss k s e procedures;
         returns = sym (ap (λ b. main && b) (opens return_step s.form)) ∙ one.returns;
@@ -157,7 +146,7 @@ module _ (u : SourceUnit) (sound : IsSound u) (text : IsTextOf u) (procedures : 
       let fine : Each (NameFits f meant S) (occurring.form_step (map-Form Form Occurrences occurring.in_form (Form-F.Do label name a b c))) =
       subst (λ F. Each (NameFits f meant S) (occurring.form_step (map-Form Form Occurrences occurring.in_form F))) is (subst (Each (NameFits f meant S)) (opens occurring.form_step s.form) (fit.each k s e)) in
       let targets : form_step f f.constants Targets (map-Form Form Bool (form_breaks f f.constants Targets) (Form-F.Do label name a b c)) ≡ false =
-      subst (λ F. form_step f f.constants Targets (map-Form Form Bool (form_breaks f f.constants Targets) F) ≡ false) is (sym (opens (form_step f f.constants Targets) s.form) ∙ not_target k s e) in
+      subst (λ F. form_step f f.constants Targets (map-Form Form Bool (form_breaks f f.constants Targets) F) ≡ false) is (sym (opens (form_step f f.constants Targets) s.form) ∙ not_target u sound k s e) in
       variable_of name (standing_of f name) fine.0.stands (scalar (is_scalar (standing_of f name)) (or_left (not (is_scalar (standing_of f name))) _ targets))
     where
       scalar : (b : Bool) → not b ≡ false → b ≡ true
@@ -244,6 +233,6 @@ module _ (u : SourceUnit) (sound : IsSound u) (text : IsTextOf u) (procedures : 
   unit_ok = record { arrays = refl; first = turns.first; each = λ k. (each_ok k).0; inner = λ k. (each_ok k).1; entry = fit.entry }
 
 pub terms_have_types : TermsHaveTypes
-terms_have_types u sound text fit k line p s e at c d =
-    (term_fits (facts u) (constants (take k u.statements)) line (meant_of u) (effects u) (callees u) (passed u) (functions_agree u sound text) (λ name v h. fit.values k name v h) (all_used u) (all_assigned u) (site_fits u) e p s at c
+terms_have_types u sound text procedures k line p s e at c d =
+    (term_fits (facts u) (constants (take k u.statements)) line (meant_of u) (effects u) (callees u) (passed u) (functions_agree u sound text) (known_values u sound text k) (all_used u) (all_assigned u) (site_fits u) e p s at c
     (record { occurs = d.names; called = d.callees_are; passes = d.passed_are })).fits

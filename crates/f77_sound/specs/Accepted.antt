@@ -1,5 +1,5 @@
--- What is known of units that a text gave, and of the names of a unit that passed its checks.
-use Rattle.std.specs.Prelude.{◌≡◌, ℕ, ◌-◌, true, false, ◌&&◌, List, Some, length, take, slice_get}
+-- What is known of units that a text gave, and what the names of a unit that passed its checks stand for.
+use Rattle.std.specs.Prelude.{◌≡◌, ℕ, ◌-◌, ◌≤◌, true, false, ◌&&◌, List, Some, length, take, slice_get}
 use Rattle.std.specs.List.{list_any}
 use Rattle.f77_tree.specs.declared.form.Form.{out-Form}
 use Rattle.f77_tree.specs.declared.form.Form.TheOpen.{Form-F}
@@ -27,11 +27,12 @@ pub record IsStatementOf (u : SourceUnit) (s : Stmt) : Type 0 where
   pub returns : (is_main u.kind && returns_in s.form) ≡ false
   pub guards : guards_action (out-Form s.form) ≡ true
 
--- A unit as a text gives it: its last statement is END.
+-- A unit as a text gives it: its last statement is END, and it has at most 63 dummy arguments.
 pub record IsTextOf (u : SourceUnit) : Type 0 where
   pub last : Stmt
   pub stands : slice_get u.statements (length u.statements - 1) ≡ Some last
   pub end : out-Form last.form ≡ Form-F.End
+  pub dummies : length u.dummies ≤ 63
   pub each : (k : ℕ) (s : Stmt) → slice_get u.statements k ≡ Some s → IsStatementOf u s
 
 -- No procedure is passed, referenced or called as a dummy (fault 35).
@@ -47,11 +48,10 @@ pub record NamesFit (u : SourceUnit) : Type 0 where
   pub function : u.kind ≡ kind.Function → StandsForVariable (facts u) (meant_of u) (effects u) u.name
   pub entry : EntryOk (effects u) (routine u).dummy_arrays
 
--- A unit that a text gave, that passed its checks, and whose names stand for what their roles say.
+-- A unit that a text gave and that passed its checks.
 pub record IsGood (u : SourceUnit) : Type 0 where
   pub sound : IsSound u
   pub text : IsTextOf u
-  pub names : NamesFit u
 
 abbrev pub AllAreGood : List SourceUnit → Type 0
 AllAreGood units = (k : ℕ) (u : SourceUnit) → slice_get units k ≡ Some u → IsGood u

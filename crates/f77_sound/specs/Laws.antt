@@ -36,14 +36,18 @@ FunctionsAreApplied = (u : SourceUnit) → IsSound u → IsTextOf u → Function
 abbrev pub CalledAreSubroutines : Type 0
 CalledAreSubroutines = (u : SourceUnit) → IsSound u → IsTextOf u → (name : Name) → is_among (facts u).attributes.called name ≡ true → role (facts u) name ≡ roles.Subroutine
 
+-- The names of a unit that passed its checks stand for what their roles say.
+abbrev pub NamesStand : Type 0
+NamesStand = (u : SourceUnit) → IsSound u → IsTextOf u → PassesNoProcedure u → NamesFit u
+
 -- An expression that passed the checks at its place in statement k is a term with the type that is wanted there, or an actual.
 abbrev pub TermsHaveTypes : Type 0
-TermsHaveTypes = (u : SourceUnit) → IsSound u → IsTextOf u → NamesFit u → (k line : ℕ) (p : Place) (site : ℕ) (e : Expr) → IsUse p → Checked (facts u) (constants (take k u.statements)) line p e → StandsIn u site e
+TermsHaveTypes = (u : SourceUnit) → IsSound u → IsTextOf u → PassesNoProcedure u → (k line : ℕ) (p : Place) (site : ℕ) (e : Expr) → IsUse p → Checked (facts u) (constants (take k u.statements)) line p e → StandsIn u site e
     → TermFits (effects u) p (term_from site (resolved (meant_of u) e))
 
 -- A unit that a text gave and that passed the checks of its statements is as its effects say.
 abbrev pub UnitsAreSound : Type 0
-UnitsAreSound = (u : SourceUnit) → IsSound u → IsTextOf u → PassesNoProcedure u → NamesFit u → UnitOk (routine u) (effects u)
+UnitsAreSound = (u : SourceUnit) → IsSound u → IsTextOf u → PassesNoProcedure u → UnitOk (routine u) (effects u)
 
 -- An accepted program of such units has no run that is wrong.
 abbrev pub ProgramsAreNeverStuck : Type 0
