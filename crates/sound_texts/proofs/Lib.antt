@@ -1,0 +1,5 @@
+mod Expressions
+mod Forms
+mod Trees
+mod Names
+mod Drafts
