@@ -12,14 +12,11 @@ use Rattle.f77_running.specs.Terms.{Meant, Constant, Resolved, bare, step, resol
 use Rattle.f77_running.specs.Effects.{constant}
 use Rattle.f77_running.proofs.Trees.{layer}
 
-some_is : {A : Type 0} (x y : A) → Some x ≡ Some y → x ≡ y
-some_is x y e = cc
-
-signed : (g : Value → Option Value) (o : Option Value) (v : Value) → applied g o ≡ Some v → (x : Value) × (o ≡ Some x) × (g x ≡ Some v)
+pub signed : (g : Value → Option Value) (o : Option Value) (v : Value) → applied g o ≡ Some v → (x : Value) × (o ≡ Some x) × (g x ≡ Some v)
 signed g None v e = cc
 signed g (Some x) v e = (x, refl, e)
 
-joined : (op : Op) (p q : Option Value) (v : Value) → operated op p q ≡ Some v → (x : Value) × (y : Value) × (p ≡ Some x) × (q ≡ Some y) × (operate op x y ≡ Some v)
+pub joined : (op : Op) (p q : Option Value) (v : Value) → operated op p q ≡ Some v → (x : Value) × (y : Value) × (p ≡ Some x) × (q ≡ Some y) × (operate op x y ≡ Some v)
 joined op None None v e = cc
 joined op None (Some y) v e = cc
 joined op (Some x) None v e = cc

@@ -12,6 +12,7 @@ use Rattle.f77_tree.specs.declared.unit.Value.{Value}
 use Rattle.f77_store.specs.declared.attributes.Attributes.{Attributes}
 use Rattle.f77_store.specs.declared.occurrences.Manner.{Manner}
 use Rattle.f77_store.specs.declared.occurrences.Manner.TheVariants as manner
+use Rattle.f77_store.specs.declared.occurrences.Occurrence.{Occurrence}
 use Rattle.f77_store.specs.Constants.{value_of, defined, with_constant, form_constants, with_statement, constants}
 use Rattle.f77_store.specs.Names.{Name, name_eq, is_among, Told, what}
 use Rattle.f77_store.specs.Occurrences.{in_head, in_statement, occurrences, names_that}
@@ -86,11 +87,11 @@ module _ (u : SourceUnit) (apart : (k : ℕ) → conflict_in (before (given_at (
       ∙ any_right (list_any (gives_it A name) (by_form (out-Form s.form))) (list_any (gives_it A name) (flat_map (by_occurrence a) (in_text u (k == 0) s))) (given_by_name a m name A g (in_text u (k == 0) s) h))
 
   -- what stands in a statement stands in its text
-  pub in_its_text : (test : _) (b : Bool) (s : Stmt) → list_any test (in_statement s) ≡ true → list_any test (in_text u b s) ≡ true
+  pub in_its_text : (test : Occurrence → Bool) (b : Bool) (s : Stmt) → list_any test (in_statement s) ≡ true → list_any test (in_text u b s) ≡ true
   in_its_text test true s h = any-append test (in_head u) (in_statement s) ∙ any_right (list_any test (in_head u)) (list_any test (in_statement s)) h
   in_its_text test false s h = h
 
-  pub in_unit : (test : _) (k : ℕ) (s : Stmt) → slice_get ss k ≡ Some s → list_any test (in_statement s) ≡ true → list_any test (occurrences u) ≡ true
+  pub in_unit : (test : Occurrence → Bool) (k : ℕ) (s : Stmt) → slice_get ss k ≡ Some s → list_any test (in_statement s) ≡ true → list_any test (occurrences u) ≡ true
   in_unit test k s e h = any-append test (in_head u) (flat_map in_statement ss) ∙ any_right (list_any test (in_head u)) (list_any test (flat_map in_statement ss)) (any_flat test in_statement ss k s e h)
 
   abbrev all_at : Stmt → List (Name × Expr)

@@ -1,5 +1,5 @@
 -- In a unit that passed its checks the bounds of dummy arrays are terms with numbers, and so all its names fit.
-use Rattle.std.proofs.Common.{◌≡◌, ℕ, suc, ◌+◌, ◌==◌, Bool, true, false, not, ◌&&◌, ◌||◌, Option, Some, None, List, [], ◌∷◌, ◌++◌, length, map, flat_map, take, slice_get, refl, sym, ap, ◌∙◌, subst}
+use Rattle.std.proofs.Common.{◌≡◌, ℕ, suc, ◌+◌, ◌==◌, Bool, true, false, ◌||◌, Option, Some, None, List, [], ◌∷◌, ◌++◌, length, map, flat_map, take, slice_get, refl, sym, ap, ◌∙◌, subst}
 use Rattle.std.specs.List.{list_any}
 use Rattle.std.proofs.lemmas.Grind.{flat_map-append}
 use Rattle.f77_tree.specs.declared.expr.Expr.{Expr, roll-Expr, ind-Expr, fold-roll-Expr}
@@ -54,11 +54,11 @@ use Rattle.f77_sound.proofs.Clearing.{not_typed, not_scalar, not_overreaching, n
 use Rattle.f77_sound.proofs.Excluding.{functions_agree, role_by}
 use Rattle.f77_sound.proofs.Fitting.{declared_lacks, declared_breaks, declared_exponents, dummies_are, each_fits, known_values, result_stands, said_nothing}
 use Rattle.f77_sound.proofs.Forms.{all_used, all_assigned, site_fits}
-use Rattle.f77_sound.proofs.Lists.{or_left, or_right, any-append, each_left, each_right}
+use Rattle.f77_sound.proofs.Lists.{or_left, or_right, both_true, not_false, any-append, each_left, each_right}
 use Rattle.f77_sound.proofs.Opening.{opens}
 use Rattle.f77_sound.proofs.Parameters.{before_statement}
 use Rattle.f77_sound.proofs.Shaping.{declarators_in, Tells, shape_is}
-use Rattle.f77_sound.proofs.Tables.{each_of, any_here, name_self}
+use Rattle.f77_sound.proofs.Tables.{each_of, each_both, any_here, name_self}
 use Rattle.f77_sound.proofs.Terms.{as_typed, Fit, term_fits}
 
 -- ---- what is made of names and operators has no lists
@@ -86,13 +86,6 @@ module _ (f : Facts) (meant : Name → Meant) (allowed : Name → Bool) where
   bare_calls (names.AnArray ty a) = refl
   bare_calls m = refl
 
-  two : (a b : Bool) → (a && b) ≡ true → (a ≡ true) × (b ≡ true)
-  two true b h = (refl, h)
-  two false b h = cc
-
-  same : (e : Both) → is_made_of allowed e.0 ≡ true → Made e.0
-  same e h = e.1 h
-
   here : (y : Expr-F Both) → parts_step allowed (map-Expr Expr Bool (is_made_of allowed) (map-Expr Both Expr (λ e. e.0) y)) ≡ true → LayerMade (map-Expr Both Expr (λ e. e.0) y)
   here (Expr-F.Int n) h = record { text = refl; called = refl; passes = λ s. refl }
   here (Expr-F.Truth b) h = record { text = refl; called = refl; passes = λ s. refl }
@@ -104,7 +97,7 @@ module _ (f : Facts) (meant : Name → Meant) (allowed : Name → Bool) where
   here (Expr-F.Plus e) h = let m : Made e.0 = e.1 h in record { text = m.text; called = m.called; passes = m.passes }
   here (Expr-F.Not e) h = let m : Made e.0 = e.1 h in record { text = m.text; called = m.called; passes = m.passes }
   here (Expr-F.Binary op a b) h =
-      let t = two (is_made_of allowed a.0) (is_made_of allowed b.0) h in
+      let t = both_true (is_made_of allowed a.0) (is_made_of allowed b.0) h in
       let m : Made a.0 = a.1 t.0 in
       let n : Made b.0 = b.1 t.1 in
       record {
@@ -132,11 +125,7 @@ blocks_each : (P : Occurrence → Type 0) (blocks : List (Name × List Declarato
 blocks_each P [] h = tt
 blocks_each P (b ∷ blocks) h =
     subst (Each P) (sym (flat_map-append in_declarator b.1 (flat_map (λ (b : Name × List Declarator). b.1) blocks)))
-    (both (flat_map in_declarator b.1) (flat_map in_declarator (flat_map (λ (b : Name × List Declarator). b.1) blocks)) (each_left P (in_block b) (flat_map in_block blocks) h) (blocks_each P blocks (each_right P (in_block b) (flat_map in_block blocks) h)))
-  where
-    both : (xs ys : Occurrences) → Each P xs → Each P ys → Each P (xs ++ ys)
-    both [] ys h k = k
-    both (x ∷ xs) ys h k = (h.0, both xs ys h.1 k)
+    (each_both P (flat_map in_declarator b.1) (flat_map in_declarator (flat_map (λ (b : Name × List Declarator). b.1) blocks)) (each_left P (in_block b) (flat_map in_block blocks) h) (blocks_each P blocks (each_right P (in_block b) (flat_map in_block blocks) h)))
 
 declared_each : (P : Occurrence → Type 0) (F : Form-F Form) → Each P (occurring.form_step (map-Form Form Occurrences occurring.in_form F)) → Each P (flat_map in_declarator (declarators_in F))
 declared_each P (Form-F.Typed ty all) h = h
@@ -186,10 +175,6 @@ module _ (u : SourceUnit) (sound : IsSound u) (text : IsTextOf u) (procedures : 
     abbrev named : Told Value
     named = constants (take k ss)
 
-    is_true : (b : Bool) → not b ≡ false → b ≡ true
-    is_true true h = refl
-    is_true false h = cc
-
     -- a bound that is made of constants and scalars
     number : (e : Expr) → is_made_of (is_known f (in_commons u) d.names) e ≡ true → is_mistyped f integers e ≡ false → is_misplaced f integers e ≡ false → has_wrong_exponent named e ≡ false → Each Fine (in_expr e) → list_any passing (said.in_expr f line e) ≡ false
         → TermOk S types.Integer (term_from 1 (resolved meant e))
@@ -206,12 +191,12 @@ module _ (u : SourceUnit) (sound : IsSound u) (text : IsTextOf u) (procedures : 
     lower_ok : (e : Option Expr) → lower_lacks f (in_commons u) d true e ≡ false → optional_breaks f f.constants Types integers e ≡ false → optional_breaks f f.constants Scalars integers e ≡ false → optional_breaks f named Exponents integers e ≡ false → Each Fine (in_optional e) → list_any passing (said.in_optional f line e) ≡ false
         → StepOk S (optional meant e 1)
     lower_ok None c t p w fine passes = tt
-    lower_ok (Some e) c t p w fine passes = number e (is_true (is_made_of (is_known f (in_commons u) d.names) e) c) t p w fine passes
+    lower_ok (Some e) c t p w fine passes = number e (not_false (is_made_of (is_known f (in_commons u) d.names) e) c) t p w fine passes
 
     upper_ok : (last : Bool) (e : Option Expr) → upper_lacks f (in_commons u) d true last e ≡ false → optional_breaks f f.constants Types integers e ≡ false → optional_breaks f f.constants Scalars integers e ≡ false → optional_breaks f named Exponents integers e ≡ false → Each Fine (in_optional e) → list_any passing (said.in_optional f line e) ≡ false
         → StepOk S (optional meant e 1)
     upper_ok last None c t p w fine passes = tt
-    upper_ok last (Some e) c t p w fine passes = number e (is_true (is_made_of (is_known f (in_commons u) d.names) e) c) t p w fine passes
+    upper_ok last (Some e) c t p w fine passes = number e (not_false (is_made_of (is_known f (in_commons u) d.names) e) c) t p w fine passes
 
     bound_ok : (last : Bool) (b : Option Expr × Option Expr) → bound_lacks f (in_commons u) d true last b ≡ false → bound_breaks f f.constants Types b ≡ false → bound_breaks f f.constants Scalars b ≡ false → bound_breaks f named Exponents b ≡ false → Each Fine (in_bound b) → list_any passing (said.in_bound f line b) ≡ false
         → BoundOk S (bound_of meant b)

@@ -33,7 +33,7 @@ use Rattle.f77_names.specs.NameFaults.{conflict}
 use Rattle.f77_check.specs.UnitFaults.{IsSound, of_names}
 use Rattle.f77_sound.specs.Accepted.{IsTextOf}
 use Rattle.f77_sound.proofs.Clearing.{clear}
-use Rattle.f77_sound.proofs.Lists.{untrue, or_left, or_right, any-append}
+use Rattle.f77_sound.proofs.Lists.{untrue, or_left, or_right, any-append, both_true}
 use Rattle.f77_sound.proofs.Giving.{Place, all_given, among_distinct, among_names, and_false_right, any_left, any_right, before_any, given_by_name, given_somewhere, gives_it, occurs_so, placed_in, same}
 
 module _ (u : SourceUnit) (sound : IsSound u) (text : IsTextOf u) where
@@ -224,25 +224,26 @@ module _ (u : SourceUnit) (sound : IsSound u) (text : IsTextOf u) where
   unfolding same
   called_function name = clash Subroutine Function refl refl (λ g h. or_right _ _ (or_left _ _ h)) (λ g h. or_right _ _ (or_left _ _ (or_left _ _ h))) name
 
-  pub both_true : (b c : Bool) → (b && c) ≡ true → (b ≡ true) × (c ≡ true)
-  both_true true c h = (refl, h)
-  both_true false c h = cc
+  -- a list makes a name of the table an intrinsic
+  pub listed_intrinsic : (name : Name) → is_applied a name ≡ true → is_in_table a name ≡ true → by_manner a manner.Listed name ≡ Some Intrinsic
+  listed_intrinsic name applied table =
+      let no : is_function a name ≡ false = ap (λ b. is_applied a name && not b) table ∙ and_false_right (is_applied a name) in
+      λ i. if no i then Some Function else (if applied i then Some Intrinsic else None)
 
-  no_called_intrinsic : (name : Name) → has (total name) Subroutine ≡ true → is_intrinsic a name ≡ false
-  no_called_intrinsic name h = λ i. named i || applied i
+  -- a name that isn't given the role has no role of an intrinsic
+  pub not_intrinsic : (name : Name) → (has (total name) Intrinsic ≡ true → ⊥) → is_intrinsic a name ≡ false
+  not_intrinsic name never = λ i. named i || applied i
     where
       named : (is_among a.intrinsic name && is_some (intrinsic_of name)) ≡ false
       named = untrue (is_among a.intrinsic name && is_some (intrinsic_of name)) (λ c.
           let x = both_true (is_among a.intrinsic name) (is_some (intrinsic_of name)) c in
-          called_intrinsic name h (among_given manner.Intrinsic name Intrinsic (ap (λ b. if b then Some Intrinsic else None) x.1) x.0))
+          never (among_given manner.Intrinsic name Intrinsic (ap (λ b. if b then Some Intrinsic else None) x.1) x.0))
 
       applied : (is_applied a name && is_in_table a name) ≡ false
       applied = untrue (is_applied a name && is_in_table a name) (λ c.
           let x = both_true (is_applied a name) (is_in_table a name) c in
           let y = both_true (is_among a.listed name) (not (is_among a.arrays name) && not (is_among a.dummies name)) x.0 in
-          let no : is_function a name ≡ false = ap (λ b. is_applied a name && not b) x.1 ∙ and_false_right (is_applied a name) in
-          let gives : by_manner a manner.Listed name ≡ Some Intrinsic = (λ i. if no i then Some Function else (if x.0 i then Some Intrinsic else None)) in
-          called_intrinsic name h (among_given manner.Listed name Intrinsic gives y.0))
+          never (among_given manner.Listed name Intrinsic (listed_intrinsic name x.0 x.1) y.0))
 
   -- What stands behind CALL is a subroutine.
   pub called_role : (name : Name) → is_among (facts u).attributes.called name ≡ true → role_of (facts u) name ≡ role.Subroutine
@@ -251,5 +252,5 @@ module _ (u : SourceUnit) (sound : IsSound u) (text : IsTextOf u) where
       let array : is_among a.arrays name ≡ false = untrue (is_among a.arrays name) (λ c. called_array name given (among_given manner.Dimensioned name Array refl c)) in
       let constant : is_among a.constants name ≡ false = untrue (is_among a.constants name) (λ c. called_constant name given (among_given manner.Defined name Constant refl c)) in
       let function : is_function a name ≡ false = untrue (is_function a name) (λ c. called_function name given (applied_function name c)) in
-      let intrinsic : is_intrinsic a name ≡ false = no_called_intrinsic name given in
+      let intrinsic : is_intrinsic a name ≡ false = not_intrinsic name (called_intrinsic name given) in
       (λ i. role_by name (array i) (constant i) (intrinsic i) (function i) (h i) (is_among a.external name))

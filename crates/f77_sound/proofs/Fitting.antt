@@ -37,7 +37,7 @@ use Rattle.f77_names.specs.declared.attribute.Attribute.TheVariants.{ResultVaria
 use Rattle.f77_names.specs.declared.attribute.Given.{Given}
 use Rattle.f77_names.specs.Conflicts.{conflict_in, given_by, given_at}
 use Rattle.f77_names.specs.Exclusions.{has, is_excluded}
-use Rattle.f77_names.specs.Givings.{Givings, by_form, by_manner, by_occurrence}
+use Rattle.f77_names.specs.Givings.{Givings, by_form, by_occurrence}
 use Rattle.f77_names.specs.LargeArrays.{exceeds, is_large, has_large}
 use Rattle.f77_names.specs.NameFaults.{untyped}
 use Rattle.f77_names.specs.Places.{where_stands, before, in_text, occurrences_at}
@@ -66,7 +66,7 @@ use Rattle.f77_sound.specs.Units.{meant_of, effects}
 use Rattle.f77_sound.specs.Accepted.{IsTextOf, PassesNoProcedure}
 use Rattle.f77_sound.proofs.Clearing.{clear, not_typed, not_overreaching, not_lacking, not_large}
 use Rattle.f77_sound.proofs.Defining.{given_constant, kept_value, among_constants, in_its_text, in_unit}
-use Rattle.f77_sound.proofs.Excluding.{not_conflicting, total, occurrence_gives, among_given, applied_function, clash, role_by, both_true, no_array, no_constant, no_intrinsic, called_role}
+use Rattle.f77_sound.proofs.Excluding.{not_conflicting, total, occurrence_gives, among_given, applied_function, clash, role_by, listed_intrinsic, not_intrinsic, no_array, no_constant, no_intrinsic, called_role}
 use Rattle.f77_sound.proofs.Giving.{Place as Stated, same, and_false_right, any_left, any_right, among_distinct, among_names, before_any, occurs_so, placed_in}
 use Rattle.f77_sound.proofs.Heads.{all_different, head_dummies, dummy_is_array}
 use Rattle.f77_sound.proofs.Listing.{ListedAs, Listed, form_listed}
@@ -132,12 +132,12 @@ module _ (u : SourceUnit) (sound : IsSound u) (text : IsTextOf u) where
   -- ---- names that occur
 
   record Occurs (name : Name) : Type 0 where
-    in_unit_ : list_any (names_so name) (occurrences u) ≡ true
+    found : list_any (names_so name) (occurrences u) ≡ true
     before_end : list_any (names_so name) (before (occurrences_at u) (length ss)) ≡ true
 
   occurs_in : (k : ℕ) (s : Stmt) → slice_get ss k ≡ Some s → (name : Name) → list_any (names_so name) (in_statement s) ≡ true → Occurs name
   occurs_in k s e name here = record {
-    in_unit_ = in_unit u apart guards (names_so name) k s e here;
+    found = in_unit u apart guards (names_so name) k s e here;
     before_end = before_any (names_so name) (occurrences_at u) (length ss) k (slice_get_within ss k s e)
         (ap (λ x. list_any (names_so name) (where_stands [] (in_text u (k == 0)) x)) e ∙ in_its_text u apart guards (names_so name) (k == 0) s here);
   }
@@ -154,7 +154,7 @@ module _ (u : SourceUnit) (sound : IsSound u) (text : IsTextOf u) where
 
   occurs_in_head : (name : Name) → list_any (names_so name) (in_head u) ≡ true → Occurs name
   occurs_in_head name h = record {
-    in_unit_ = any-append (names_so name) (in_head u) (flat_map in_statement ss) ∙ any_left (list_any (names_so name) (in_head u)) (list_any (names_so name) (flat_map in_statement ss)) h;
+    found = any-append (names_so name) (in_head u) (flat_map in_statement ss) ∙ any_left (list_any (names_so name) (in_head u)) (list_any (names_so name) (flat_map in_statement ss)) h;
     before_end = before_any (names_so name) (occurrences_at u) (length ss) 0 (slice_get_within ss 0 first first_stands)
         (ap (λ x. list_any (names_so name) (where_stands [] (in_text u true) x)) first_stands
         ∙ (any-append (names_so name) (in_head u) (in_statement first) ∙ any_left (list_any (names_so name) (in_head u)) (list_any (names_so name) (in_statement first)) h));
@@ -236,12 +236,12 @@ module _ (u : SourceUnit) (sound : IsSound u) (text : IsTextOf u) where
   variable_stands name ty x is t =
       let slot : Slot = slot_for u name in
       let type_is : type_of f name ≡ Some ty = typed_as name role.Scalar ty is refl t in
-      let found : slot_named (slots u) name ≡ Some slot = slot_is u name x.in_unit_ (ap is_variable_role is) in
+      let slot_found : slot_named (slots u) name ≡ Some slot = slot_is u name x.found (ap is_variable_role is) in
       let same_ty : slot.ty ≡ ty = slot_type f (commons_of u) (locals_of u) name ty type_is in
       record {
         ty = ty;
         base = base_of slot;
-        meant_is = (λ i. meant_as f.constants name (is i) (found i)) ∙ ap (λ ty. names.Variable ty (base_of slot)) same_ty;
+        meant_is = (λ i. meant_as f.constants name (is i) (slot_found i)) ∙ ap (λ ty. names.Variable ty (base_of slot)) same_ty;
         type_is = type_is;
         fits = scalar_fits name is (is_among a.dummies name) refl;
       }
@@ -275,26 +275,6 @@ module _ (u : SourceUnit) (sound : IsSound u) (text : IsTextOf u) where
   unfolding same
   result_subroutine name = clash u sound text ResultVariable Subroutine refl refl (λ g h. or_left g.subroutine g.procedure (or_left _ g.intrinsic (or_left _ g.function (called_of g h)))) (λ g h. or_right _ _ (or_left _ _ (or_left _ _ (or_left _ _ h)))) name
 
-  -- a list makes a name of the table an intrinsic
-  listed_intrinsic : (name : Name) → is_applied a name ≡ true → is_in_table a name ≡ true → by_manner a manner.Listed name ≡ Some Intrinsic
-  listed_intrinsic name applied table =
-      let no : is_function a name ≡ false = ap (λ b. is_applied a name && not b) table ∙ and_false_right (is_applied a name) in
-      λ i. if no i then Some Function else (if applied i then Some Intrinsic else None)
-
-  not_intrinsic : (name : Name) → (has (total u sound text name) Intrinsic ≡ true → ⊥) → is_intrinsic a name ≡ false
-  not_intrinsic name never = λ i. named i || applied i
-    where
-      named : (is_among a.intrinsic name && is_some (intrinsic_of name)) ≡ false
-      named = untrue (is_among a.intrinsic name && is_some (intrinsic_of name)) (λ c.
-          let x = both_true u sound text (is_among a.intrinsic name) (is_some (intrinsic_of name)) c in
-          never (among_given u sound text manner.Intrinsic name Intrinsic (ap (λ b. if b then Some Intrinsic else None) x.1) x.0))
-
-      applied : (is_applied a name && is_in_table a name) ≡ false
-      applied = untrue (is_applied a name && is_in_table a name) (λ c.
-          let x = both_true u sound text (is_applied a name) (is_in_table a name) c in
-          let y = both_true u sound text (is_among a.listed name) (not (is_among a.arrays name) && not (is_among a.dummies name)) x.0 in
-          never (among_given u sound text manner.Listed name Intrinsic (listed_intrinsic name x.0 x.1) y.0))
-
   abbrev own_occurs : UnitKind → Bool
   own_occurs k = list_any (occurs_so manner.ResultName u.name) (own_name k u.name)
 
@@ -315,7 +295,7 @@ module _ (u : SourceUnit) (sound : IsSound u) (text : IsTextOf u) where
       let given = result_given is in
       let array : is_among a.arrays u.name ≡ false = untrue (is_among a.arrays u.name) (λ c. result_array u.name given (among_given u sound text manner.Dimensioned u.name Array refl c)) in
       let constant : is_among a.constants u.name ≡ false = untrue (is_among a.constants u.name) (λ c. result_constant u.name given (among_given u sound text manner.Defined u.name Constant refl c)) in
-      let intrinsic : is_intrinsic a u.name ≡ false = not_intrinsic u.name (result_intrinsic u.name given) in
+      let intrinsic : is_intrinsic a u.name ≡ false = not_intrinsic u sound text u.name (result_intrinsic u.name given) in
       let function : is_function a u.name ≡ false = untrue (is_function a u.name) (λ c. result_function u.name given (applied_function u sound text u.name c)) in
       let called : is_among a.called u.name ≡ false = untrue (is_among a.called u.name) (λ c. result_subroutine u.name given (among_given u sound text manner.Called u.name Subroutine refl c)) in
       let external : is_among a.external u.name ≡ false = untrue (is_among a.external u.name) (λ c. result_procedure u.name given (among_given u sound text manner.External u.name Procedure refl c)) in
@@ -509,12 +489,12 @@ module _ (u : SourceUnit) (sound : IsSound u) (text : IsTextOf u) where
       let t = has_a_type name x (any_left _ (is_variable a name) (any_left _ (is_result u name) (any_left _ (is_function a name) (any_left (is_among a.arrays name) (is_among a.constants name) h)))) in
       let slot : Slot = slot_for u name in
       let type_is : type_of f name ≡ Some t.0 = typed_as name (role.Array (bounds_for name)) t.0 is refl t.1 in
-      let found : slot_named (slots u) name ≡ Some slot = slot_is u name x.in_unit_ (ap is_variable_role is) in
+      let slot_found : slot_named (slots u) name ≡ Some slot = slot_is u name x.found (ap is_variable_role is) in
       let same_ty : slot.ty ≡ t.0 = slot_type f (commons_of u) (locals_of u) name t.0 type_is in
       record {
         ty = t.0;
         array = array_of f.constants (bounds_for name) slot;
-        meant_is = (λ i. meant_as f.constants name (is i) (found i)) ∙ ap (λ ty. names.AnArray ty (array_of f.constants (bounds_for name) slot)) same_ty;
+        meant_is = (λ i. meant_as f.constants name (is i) (slot_found i)) ∙ ap (λ ty. names.AnArray ty (array_of f.constants (bounds_for name) slot)) same_ty;
         type_is = type_is;
         fits = array_fits name is (is_among a.dummies name) refl;
       }
@@ -559,7 +539,7 @@ module _ (u : SourceUnit) (sound : IsSound u) (text : IsTextOf u) where
 
     intrinsic_standing : (name : Name) → is_among a.listed name ≡ true → is_among a.arrays name ≡ false → is_applied a name ≡ true → is_in_table a name ≡ true → standing_of f name ≡ standings.Intrinsic
     intrinsic_standing name listed array applied table =
-        let given : has (total u sound text name) Intrinsic ≡ true = among_given u sound text manner.Listed name Intrinsic (listed_intrinsic name applied table) listed in
+        let given : has (total u sound text name) Intrinsic ≡ true = among_given u sound text manner.Listed name Intrinsic (listed_intrinsic u sound text name applied table) listed in
         let constant : is_among a.constants name ≡ false = untrue (is_among a.constants name) (λ c. constant_intrinsic name (among_given u sound text manner.Defined name Constant refl c) given) in
         let intrinsic : is_intrinsic a name ≡ true = any_right (is_among a.intrinsic name && is_some (intrinsic_of name)) (is_applied a name && is_in_table a name) (λ i. applied i && table i) in
         λ i. standing (role_by u sound text name (array i) (constant i) (intrinsic i) (is_function a name) (is_among a.called name) (is_among a.external name))

@@ -19,7 +19,7 @@ use Rattle.f77_names.specs.Exclusions.{nothing, has, with_attribute, is_excluded
 use Rattle.f77_names.specs.Givings.{Givings, by_manner, by_occurrence, gives_if}
 use Rattle.f77_names.specs.Conflicts.{with_giving, given_to, conflict_in}
 use Rattle.f77_names.specs.Places.{before}
-use Rattle.f77_sound.proofs.Lists.{or_left, or_right, any-append}
+use Rattle.f77_sound.proofs.Lists.{or_left, or_right, both_true, any-append}
 
 -- ---- attributes
 
@@ -202,10 +202,6 @@ before_any test at (suc n) k l h =
 pub given_stays : (A : Attribute) (name : Name) (earlier gs : Givings) → has (given_to name earlier) A ≡ true → has (given_to name (earlier ++ gs)) A ≡ true
 given_stays A name earlier gs h = ap (λ x. has x A) (fold-append (with_giving name) nothing earlier gs) ∙ given_has A name gs (given_to name earlier) h
 
-both_of : (b c : Bool) → (b && c) ≡ true → (b ≡ true) × (c ≡ true)
-both_of true c h = (refl, h)
-both_of false c h = cc
-
 -- What is given once isn't given again.
 pub given_once : (A : Attribute) (name : Name) → is_once A ≡ true → (gs earlier : Givings) → has (given_to name earlier) A ≡ true → list_any (gives_it A name) gs ≡ true → conflict_in earlier gs ≡ false → ⊥
 unfolding gives_it
@@ -227,7 +223,7 @@ given_once A name one (g ∷ gs) earlier h k c =
         contra (sym (same_one ∙ again (has (given_to name earlier) A) h) ∙ no)
 
     go : (b : Bool) → (name_eq g.name name && same g.attribute A) ≡ b → (b || list_any (gives_it A name) gs) ≡ true → (list_any (gives_it A name) gs ≡ true → ⊥) → ⊥
-    go true e k rest = let x = both_of (name_eq g.name name) (same g.attribute A) e in here (same_text g.name name (sym x.0)) (same_is g.attribute A x.1)
+    go true e k rest = let x = both_true (name_eq g.name name) (same g.attribute A) e in here (same_text g.name name (sym x.0)) (same_is g.attribute A x.1)
     go false e k rest = rest k
 
 -- ---- how names occur

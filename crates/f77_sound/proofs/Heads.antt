@@ -27,8 +27,8 @@ use Rattle.f77_running.specs.Source.{dummy_array, dummy_arrays_from}
 use Rattle.f77_running.specs.Terms.{Meant}
 use Rattle.f77_running.specs.Units.{is_array}
 use Rattle.f77_sound.specs.Texts.{guards_action}
-use Rattle.f77_sound.proofs.Giving.{among_more, given_stays}
-use Rattle.f77_sound.proofs.Lists.{or_left, or_right, untrue}
+use Rattle.f77_sound.proofs.Giving.{and_false_right, among_more, given_stays}
+use Rattle.f77_sound.proofs.Lists.{or_left, or_right, untrue, or_assoc, or_none}
 use Rattle.f77_sound.proofs.Manners.{no_dummies}
 use Rattle.f77_sound.proofs.Tables.{name_self, name_is, opposite}
 
@@ -138,23 +138,11 @@ lesser_number j k l = grind (arith, nat_tests)
 module _ (f : Facts) (meant : Name → Meant) where
   both_arrays : (xs ys : List DummyArray) (k : ℕ) → is_array (xs ++ ys) k ≡ (is_array xs k || is_array ys k)
   both_arrays [] ys k = refl
-  both_arrays (x ∷ xs) ys k = ap (λ b. nat_eq x.dummy k || b) (both_arrays xs ys k) ∙ sym (assoc (nat_eq x.dummy k) (is_array xs k) (is_array ys k))
-    where
-      assoc : (a b c : Bool) → ((a || b) || c) ≡ (a || (b || c))
-      assoc true b c = refl
-      assoc false b c = refl
+  both_arrays (x ∷ xs) ys k = ap (λ b. nat_eq x.dummy k || b) (both_arrays xs ys k) ∙ sym (or_assoc (nat_eq x.dummy k) (is_array xs k) (is_array ys k))
 
   one_array : (j k : ℕ) (r : Role) → is_array (dummy_array meant j r) k ≡ (is_array_role r && nat_eq j k)
   one_array j k (role.Array bounds) = or_none (nat_eq j k)
-    where
-      or_none : (b : Bool) → (b || false) ≡ b
-      or_none true = refl
-      or_none false = refl
   one_array j k r = refl
-
-  and_none : (b : Bool) → (b && false) ≡ false
-  and_none true = refl
-  and_none false = refl
 
   and_all : (b : Bool) → (b && true) ≡ b
   and_all true = refl
@@ -164,7 +152,7 @@ module _ (f : Facts) (meant : Name → Meant) where
   not_before [] j k l = refl
   not_before (d ∷ ds) j k l =
       both_arrays (dummy_array meant j (role_of f d)) (dummy_arrays_from f meant (suc j) ds) k
-      ∙ (λ i. (one_array j k (role_of f d) ∙ (ap (λ b. is_array_role (role_of f d) && b) (other_number j k l) ∙ and_none (is_array_role (role_of f d)))) i || not_before ds (suc j) k (omega (arith, l)) i)
+      ∙ (λ i. (one_array j k (role_of f d) ∙ (ap (λ b. is_array_role (role_of f d) && b) (other_number j k l) ∙ and_false_right (is_array_role (role_of f d)))) i || not_before ds (suc j) k (omega (arith, l)) i)
 
   from_here : (ds : List Name) (j i : ℕ) (name : Name) → slice_get ds i ≡ Some name → is_array (dummy_arrays_from f meant j ds) (j + i) ≡ is_array_role (role_of f name)
   from_here [] j i name e = cc
@@ -173,14 +161,10 @@ module _ (f : Facts) (meant : Name → Meant) where
       let here : is_array (dummy_array meant j (role_of f d)) (j + 0) ≡ is_array_role (role_of f d) = one_array j (j + 0) (role_of f d) ∙ (ap (λ b. is_array_role (role_of f d) && b) (same_number j (j + 0) (omega arith)) ∙ and_all (is_array_role (role_of f d))) in
       both_arrays (dummy_array meant j (role_of f d)) (dummy_arrays_from f meant (suc j) ds) (j + 0)
       ∙ ((λ i. here i || not_before ds (suc j) (j + 0) (omega arith) i) ∙ (or_none (is_array_role (role_of f d)) ∙ ap (λ d. is_array_role (role_of f d)) same))
-    where
-      or_none : (b : Bool) → (b || false) ≡ b
-      or_none true = refl
-      or_none false = refl
   from_here (d ∷ ds) j (suc i) name e =
       let k : ℕ = j + suc i in
       let next : suc j + i ≡ k = omega arith in
-      let here : is_array (dummy_array meant j (role_of f d)) k ≡ false = one_array j k (role_of f d) ∙ (ap (λ b. is_array_role (role_of f d) && b) (lesser_number j k (omega arith)) ∙ and_none (is_array_role (role_of f d))) in
+      let here : is_array (dummy_array meant j (role_of f d)) k ≡ false = one_array j k (role_of f d) ∙ (ap (λ b. is_array_role (role_of f d) && b) (lesser_number j k (omega arith)) ∙ and_false_right (is_array_role (role_of f d))) in
       both_arrays (dummy_array meant j (role_of f d)) (dummy_arrays_from f meant (suc j) ds) k
       ∙ (λ i. here i || is_array (dummy_arrays_from f meant (suc j) ds) k) ∙ (ap (is_array (dummy_arrays_from f meant (suc j) ds)) (sym next) ∙ from_here ds (suc j) i name e)
 

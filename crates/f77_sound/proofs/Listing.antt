@@ -69,10 +69,6 @@ module _ (f : Facts) where
     members [] p = tt
     members (e ∷ es) p = both (said.in_expr f line e.0) (flat_map (said.in_expr f line) (map (λ e. e.0) es)) (in_expr e.0) (flat_map in_expr (map (λ e. e.0) es)) e.1 (members es) p
 
-    and_false : (b : Bool) → (b && false) ≡ false
-    and_false true = refl
-    and_false false = refl
-
     -- A name that is applied is no dummy.
     function_no_dummy : (listed arrays dummies table : Bool) → ((listed && (not arrays && not dummies)) && not table) ≡ true → (dummies && not arrays) ≡ false
     function_no_dummy true arrays true table h = absurd (contra arrays table h)

@@ -18,7 +18,7 @@ use Rattle.f77_store.specs.Occurrences.{Occurrences, occurs, expr_step, in_expr,
 use Rattle.f77_sound.specs.Sites.{Each}
 use Rattle.f77_sound.specs.Texts.{is_action, guards_action}
 use Rattle.f77_sound.proofs.Giving.{occurs_so}
-use Rattle.f77_sound.proofs.Lists.{any-append, flat}
+use Rattle.f77_sound.proofs.Lists.{or_none, any-append, flat}
 use Rattle.f77_sound.proofs.Opening.{opens}
 use Rattle.f77_sound.proofs.Tables.{each_both, each_flat, each_map, none_of}
 
@@ -159,10 +159,6 @@ defined_once name (d ∷ all) =
     any-append (occurs_so manner.Defined name) (in_definition d) (flat_map in_definition all)
     ∙ (ap (λ b. (name_eq name d.0 || b) || list_any (occurs_so manner.Defined name) (flat_map in_definition all)) (none_defined name (in_expr d.1) (expr_quiet d.1))
     ∙ (ap (λ b. b || list_any (occurs_so manner.Defined name) (flat_map in_definition all)) (or_none (name_eq name d.0)) ∙ ap (λ b. name_eq name d.0 || b) (defined_once name all)))
-  where
-    or_none : (b : Bool) → (b || false) ≡ b
-    or_none true = refl
-    or_none false = refl
 
 -- What occurs as defined is what PARAMETER defines.
 pub defined_here : (name : Name) (s : Stmt) → guards_action (out-Form s.form) ≡ true → list_any (occurs_so manner.Defined name) (in_statement s) ≡ list_any (defines name) (definitions_in (out-Form s.form))

@@ -26,7 +26,7 @@ use Rattle.f77_values.specs.Needed.{is_constant, is_no_constant, lacks_values}
 use Rattle.f77_sound.specs.Sites.{Each}
 use Rattle.f77_sound.proofs.Defining.{take_next, take_past, next_constants}
 use Rattle.f77_sound.proofs.Giving.{among_more}
-use Rattle.f77_sound.proofs.Lists.{or_left, or_right}
+use Rattle.f77_sound.proofs.Lists.{or_left, or_right, not_false}
 use Rattle.f77_sound.proofs.Manners.{definitions_in, defines}
 use Rattle.f77_sound.proofs.Tables.{name_is, among_stays, among_last, told_other, told_same, opposite}
 use Rattle.f77_sound.proofs.Valuing.{ty_of, ConstantKnown, HasValue, constant_value}
@@ -70,10 +70,6 @@ module _ (f : Facts) where
   abbrev AllKnown : Defined → Type 0
   AllKnown d = (name : Name) → is_among d.names name ≡ true → ConstantKnown f d.values name
 
-  is_true : (b : Bool) → not b ≡ false → b ≡ true
-  is_true true h = refl
-  is_true false h = cc
-
   told_known : (d : Defined) (n : Name) (o : Option Value) (v : Value) → o ≡ Some v → type_of f n ≡ Some (ty_of v) → is_called (standing_of f n) ≡ false → AllKnown d → (name : Name) → is_among (with_name d.names n) name ≡ true → ConstantKnown f (told_as d.values n o) name
   told_known d n o v is type_is bare known name h = subst (λ o. ConstantKnown f (told_as d.values n o) name) (sym is) (go (name_eq name n) refl)
     where
@@ -88,7 +84,7 @@ module _ (f : Facts) where
   one_known : (d : Defined) (x : Name × Expr) → AllKnown d → Named f x.0 → is_no_constant d x.1 ≡ false → is_mistyped f (Valued (type_of f x.0)) x.1 ≡ false → has_wrong_exponent d.values x.1 ≡ false → AllKnown (with_definition d x)
   one_known d x known n c t w =
       let v : HasValue (type_of f x.0) (value_of d.values x.1) =
-      constant_value f d.values (is_among d.names) known x.1 (type_of f x.0) t (is_true (is_constant d x.1) (or_left (not (is_constant d x.1)) _ c)) (or_right (not (is_constant d x.1)) _ c) w in
+      constant_value f d.values (is_among d.names) known x.1 (type_of f x.0) t (not_false (is_constant d x.1) (or_left (not (is_constant d x.1)) _ c)) (or_right (not (is_constant d x.1)) _ c) w in
       let same : n.ty ≡ ty_of v.value = same_type n.ty (ty_of v.value) (subst (λ o. differs o (Some (ty_of v.value)) ≡ false) n.type_is v.fits) in
       told_known d x.0 (value_of d.values x.1) v.value v.is (n.type_is ∙ ap Some same) n.bare known
 

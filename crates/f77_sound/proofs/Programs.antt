@@ -47,15 +47,8 @@ use Rattle.f77_sound.proofs.Lists.{untrue, or_left, or_right, length-map}
 use Rattle.f77_sound.proofs.Naming.{HasUnit, unit_known, FirstOf, first_of, Spot, spot, same_unit}
 use Rattle.f77_sound.proofs.Ranks.{reach, fewer, reach_short}
 use Rattle.f77_sound.proofs.Saying.{each_weaker, Wants, SiteIn, CallFits, call_fits, statements_said}
+use Rattle.f77_sound.proofs.Tables.{some_is, each_at}
 use Rattle.f77_sound.proofs.Wholes.{head_callees, unit_ok}
-
-some_is : {A : Type 0} (x y : A) → Some x ≡ Some y → x ≡ y
-some_is x y e = cc
-
-each_at : {A : Type 0} (P : A → Type 0) (xs : List A) (k : ℕ) (x : A) → Each P xs → slice_get xs k ≡ Some x → P x
-each_at P [] k x h e = cc
-each_at P (y ∷ ys) zero x h e = subst P (some_is y x e) h.0
-each_at P (y ∷ ys) (suc k) x h e = each_at P ys k x h.1 e
 
 record OneOf {A : Type 0} (test : A → Bool) (xs : List A) : Type 0 where
   at : ℕ

@@ -39,14 +39,11 @@ use Rattle.prog_check.proofs.Said.{in_expr-Apply}
 use Rattle.f77_sound.specs.Sites.{Each}
 use Rattle.f77_sound.specs.Checked.{IsSubroutine, ListFits, NameFits}
 use Rattle.f77_sound.proofs.Lists.{at_left, at_right, each_right, flat}
+use Rattle.f77_sound.proofs.Tables.{each_both}
 
 pub each_weaker : {A : Type 0} (P Q : A → Type 0) (xs : List A) → ((x : A) → P x → Q x) → Each P xs → Each Q xs
 each_weaker P Q [] g h = tt
 each_weaker P Q (x ∷ xs) g h = (g x h.0, each_weaker P Q xs g h.1)
-
-each_append : {A : Type 0} (P : A → Type 0) (xs ys : List A) → Each P xs → Each P ys → Each P (xs ++ ys)
-each_append P [] ys h k = k
-each_append P (x ∷ xs) ys h k = (h.0, each_append P xs ys h.1 k)
 
 -- the type that a site wants is that of the name, and a subroutine has none
 abbrev pub Wants : Facts → Wanted → Name → Type 0
@@ -95,7 +92,7 @@ module _ (f : Facts) (line : ℕ) where
   Says ms a = Each (SiteIn f ms) (callees_with f a)
 
   told_both : (ms ns : List Mention) (cs ds : List Name) → Told ms cs → Told ns ds → Told (ms ++ ns) (cs ++ ds)
-  told_both ms ns cs ds h k = each_append (SiteIn f (ms ++ ns)) cs ds (each_weaker (SiteIn f ms) (SiteIn f (ms ++ ns)) cs (in_left f ms ns) h) (each_weaker (SiteIn f ns) (SiteIn f (ms ++ ns)) ds (in_right f ms ns) k)
+  told_both ms ns cs ds h k = each_both (SiteIn f (ms ++ ns)) cs ds (each_weaker (SiteIn f ms) (SiteIn f (ms ++ ns)) cs (in_left f ms ns) h) (each_weaker (SiteIn f ns) (SiteIn f (ms ++ ns)) ds (in_right f ms ns) k)
 
   says_both : (ms ns : List Mention) (a b : Occurrences) → Says ms a → Says ns b → Says (ms ++ ns) (a ++ b)
   says_both ms ns a b h k = subst (Told (ms ++ ns)) (sym (flat_map-append (callee f.attributes) a b)) (told_both ms ns (callees_with f a) (callees_with f b) h k)

@@ -1,5 +1,5 @@
 -- The bounds and sizes of arrays, from their declarators.
-use Rattle.std.proofs.Common.{◌≡◌, ℕ, suc, ◌+◌, ◌*◌, ◌==◌, ◌≤◌, Bool, true, false, not, ◌||◌, nat_lt, ℤ, pos, Option, Some, None, List, [], ◌∷◌, ◌++◌, length, map, flat_map, fold, take, slice_get, option_map, unwrap_or, refl, sym, ap, ◌∙◌, subst, arith, if◌then◌else◌}
+use Rattle.std.proofs.Common.{◌≡◌, ℕ, suc, ◌+◌, ◌*◌, ◌==◌, ◌≤◌, Bool, true, false, not, ◌||◌, nat_lt, ℤ, pos, Option, Some, None, List, [], ◌∷◌, length, map, flat_map, fold, take, slice_get, option_map, unwrap_or, refl, sym, ap, ◌∙◌, subst, arith, if◌then◌else◌}
 use Rattle.std.specs.List.{list_any}
 use Rattle.std.proofs.lemmas.Bool.Decides.{nat_tests}
 use Rattle.std.proofs.lemmas.Grind.{flat_map-append}
@@ -30,7 +30,7 @@ use Rattle.f77_running.specs.Terms.{extent_of}
 use Rattle.f77_running.specs.Units.{total}
 use Rattle.f77_sound.specs.Sites.{Each}
 use Rattle.f77_sound.proofs.Defining.{take_next}
-use Rattle.f77_sound.proofs.Lists.{or_left, or_right, any-append}
+use Rattle.f77_sound.proofs.Lists.{or_left, or_right, not_false, any-append, each_left, each_right}
 use Rattle.f77_sound.proofs.Tables.{each_both, told_each, what_each}
 use Rattle.f77_sound.proofs.Valuing.{ty_of, ConstantKnown, HasValue, constant_value, value_stays}
 
@@ -73,21 +73,13 @@ module _ (Q : Name × Shape → Type 0) where
   head_told None name = tt
   head_told (Some word) name = tt
 
-  left_tells : (named : Told Value) (xs ys : List Declarator) → Each (Tells named) (xs ++ ys) → Each (Tells named) xs
-  left_tells named [] ys h = tt
-  left_tells named (x ∷ xs) ys h = (h.0, left_tells named xs ys h.1)
-
-  right_tells : (named : Told Value) (xs ys : List Declarator) → Each (Tells named) (xs ++ ys) → Each (Tells named) ys
-  right_tells named [] ys h = h
-  right_tells named (x ∷ xs) ys h = right_tells named xs ys h.1
-
   blocks_told : (named : Told Value) (blocks : List (Name × List Declarator)) → Each (Tells named) (flat_map (λ (b : Name × List Declarator). b.1) blocks) → Each Q (flat_map shape_told (flat_map (in_block named) blocks))
   blocks_told named [] h = tt
   blocks_told named (b ∷ blocks) h =
       let rest : List Declarator = flat_map (λ (b : Name × List Declarator). b.1) blocks in
       subst (Each Q) (sym (flat_map-append shape_told (in_block named b) (flat_map (in_block named) blocks)))
       (each_both Q (flat_map shape_told (in_block named b)) (flat_map shape_told (flat_map (in_block named) blocks))
-      (list_told named None (Some b.0) b.1 (left_tells named b.1 rest h)) (blocks_told named blocks (right_tells named b.1 rest h)))
+      (list_told named None (Some b.0) b.1 (each_left (Tells named) b.1 rest h)) (blocks_told named blocks (each_right (Tells named) b.1 rest h)))
 
   form_told : (named : Told Value) (F : Form-F Form) → Each (Tells named) (declarators_in F) → Each Q (flat_map shape_told (in_form named F))
   form_told named (Form-F.Head kind word name dummies) h = head_told word name
@@ -137,10 +129,6 @@ multiplied named all (b ∷ bounds) m h =
     ∙ (multiplied named all bounds (m * x.size) h.1 ∙ (ap Some same ∙ ap (λ size. Some (m * (size * n))) (sym size_is)))
 
 module _ (f : Facts) (commons_at : Told Place) (d : Defined) (known : (name : Name) → is_among d.names name ≡ true → ConstantKnown f d.values name) (all : Told Value) (more : (name : Name) (v : Value) → what d.values name ≡ Some v → what all name ≡ Some v) where
-  is_true : (b : Bool) → not b ≡ false → b ≡ true
-  is_true true h = refl
-  is_true false h = cc
-
   number_of : (o : Option Value) → HasValue (Some types.Integer) o → (n : ℤ) × (o ≡ Some (Integer n))
   number_of o v = go v.value v.is v.fits
     where
@@ -150,7 +138,7 @@ module _ (f : Facts) (commons_at : Told Place) (d : Defined) (known : (name : Na
 
   constant_whole : (e : Expr) → is_no_constant d e ≡ false → is_mistyped f integers e ≡ false → has_wrong_exponent d.values e ≡ false → Whole d.values all e
   constant_whole e c t w =
-      let v : HasValue (Some types.Integer) (value_of d.values e) = constant_value f d.values (is_among d.names) known e (Some types.Integer) t (is_true (is_constant d e) (or_left (not (is_constant d e)) _ c)) (or_right (not (is_constant d e)) _ c) w in
+      let v : HasValue (Some types.Integer) (value_of d.values e) = constant_value f d.values (is_among d.names) known e (Some types.Integer) t (not_false (is_constant d e) (or_left (not (is_constant d e)) _ c)) (or_right (not (is_constant d e)) _ c) w in
       let n = number_of (value_of d.values e) v in
       record { number = n.0; here = ap whole n.1; there = ap whole (value_stays d.values all more e (Integer n.0) n.1) }
 

@@ -1,5 +1,5 @@
 -- Names in lists without repetitions, and what tables tell of names when more is told.
-use Rattle.std.proofs.Common.{◌≡◌, ℕ, zero, suc, ◌⊎◌, inl, inr, Bool, true, false, cond, ◌&&◌, ◌||◌, Option, Some, None, List, [], ◌∷◌, ◌++◌, fold, map, flat_map, slice_get, refl, sym, ap, ◌∙◌, subst, is_some, if◌then◌else◌}
+use Rattle.std.proofs.Common.{◌≡◌, ℕ, zero, suc, Bool, true, false, cond, ◌&&◌, ◌||◌, Option, Some, None, List, [], ◌∷◌, ◌++◌, fold, map, flat_map, slice_get, refl, sym, ap, ◌∙◌, subst, is_some, if◌then◌else◌}
 use Rattle.std.specs.List.{list_any}
 use Rattle.std.specs.Cmp.Lexicographic.{same_text}
 use Rattle.std.proofs.lemmas.Cmp.{nat_list_eq_equiv}
@@ -60,10 +60,6 @@ pub any_flat : {A B : Type 0} (test : B → Bool) (g : A → List B) (xs : List 
 any_flat test g [] i x e h = cc
 any_flat test g (y ∷ xs) zero x e h = any-append test (g y) (flat_map g xs) ∙ any_left (list_any test (g y)) (list_any test (flat_map g xs)) (ap (λ y. list_any test (g y)) (some_is y x e) ∙ h)
 any_flat test g (y ∷ xs) (suc i) x e h = any-append test (g y) (flat_map g xs) ∙ any_right (list_any test (g y)) (list_any test (flat_map g xs)) (any_flat test g xs i x e h)
-
-pub either_of : (a b : Bool) → (a || b) ≡ true → (a ≡ true) ⊎ (b ≡ true)
-either_of true b h = inl refl
-either_of false b h = inr h
 
 -- ---- names, each once
 
@@ -130,14 +126,6 @@ told_same (e ∷ es) k v = go (name_eq k e.0) refl (told_same es k v)
     go : (b : Bool) → name_eq k e.0 ≡ b → what (with_told es k v) k ≡ Some v → what (cond b ((e.0, v) ∷ es) (e ∷ with_told es k v)) k ≡ Some v
     go true t rest = ap (λ b. cond b (Some v) (what es k)) t
     go false t rest = ap (λ b. cond b (Some e.1) (what (with_told es k v) k)) t ∙ rest
-
--- What is known of a name stays known.
-pub told_stays : {A : Type 0} (es : Told A) (k : Name) (v : A) (name : Name) → is_some (what es name) ≡ true → is_some (what (with_told es k v) name) ≡ true
-told_stays es k v name h = go (name_eq name k) refl
-  where
-    go : (b : Bool) → name_eq name k ≡ b → is_some (what (with_told es k v) name) ≡ true
-    go true e = ap (λ n. is_some (what (with_told es k v) n)) (name_is name k e) ∙ ap is_some (told_same es k v)
-    go false e = ap is_some (told_other es k v name e) ∙ h
 
 pub known : {A : Type 0} (o : Option A) → is_some o ≡ true → (x : A) × (o ≡ Some x)
 known None h = cc

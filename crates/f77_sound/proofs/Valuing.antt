@@ -1,5 +1,5 @@
 -- A constant expression that passed its checks has a value of the type that is wanted.
-use Rattle.std.proofs.Common.{◌≡◌, Bool, true, false, not, ◌&&◌, ◌||◌, nat_le, ℤ, pos, negsuc, int_div, Option, Some, None, refl, sym, ap, ◌∙◌, subst, if◌then◌else◌}
+use Rattle.std.proofs.Common.{◌≡◌, Bool, true, false, not, ◌||◌, nat_le, ℤ, pos, negsuc, int_div, Option, Some, None, refl, sym, ap, ◌∙◌, subst, if◌then◌else◌}
 use Rattle.f77_tree.specs.declared.expr.Expr.{Expr, roll-Expr, ind-Expr, fold-roll-Expr}
 use Rattle.f77_tree.specs.declared.expr.Expr.TheFolds.{map-Expr}
 use Rattle.f77_tree.specs.declared.expr.Expr.TheOpen.{Expr-F}
@@ -25,17 +25,12 @@ use Rattle.f77_types.proofs.Agreeing.{has_value}
 use Rattle.f77_values.specs.declared.expressions.Judged.{Judged}
 use Rattle.f77_values.specs.Expressions.{parts_step, is_made_of, divides, zero_step, judge_step, judged}
 use Rattle.f77_running.specs.Values.{has_type}
-use Rattle.f77_sound.proofs.Lists.{or_left, or_right}
+use Rattle.f77_sound.proofs.Constants.{signed as signed_value, joined as joined_value}
+use Rattle.f77_sound.proofs.Lists.{or_left, or_right, both_true}
 
 abbrev pub ty_of : Value → Ty
 ty_of (Integer n) = types.Integer
 ty_of (Logical b) = types.Logical
-
-pub value_typed : (ty : Ty) (v : Value) → differs (Some ty) (Some (ty_of v)) ≡ false → has_type ty v ≡ true
-value_typed types.Integer (Integer n) h = refl
-value_typed types.Logical (Logical b) h = refl
-value_typed types.Integer (Logical b) h = cc
-value_typed types.Logical (Integer n) h = cc
 
 pub itself_typed : (v : Value) → has_type (ty_of v) v ≡ true
 itself_typed (Integer n) = refl
@@ -127,10 +122,6 @@ pub record HasValue (w : Option Ty) (o : Option Value) : Type 0 where
   pub is : o ≡ Some value
   pub fits : differs w (Some (ty_of value)) ≡ false
 
-both_parts : (a b : Bool) → (a && b) ≡ true → (a ≡ true) × (b ≡ true)
-both_parts true b h = (refl, h)
-both_parts false b h = cc
-
 module _ (f : Facts) (named : Told Value) (allowed : Name → Bool) (fine : (name : Name) → allowed name ≡ true → ConstantKnown f named name) where
   abbrev Given : Expr → Type 0
   Given e = (w : Option Ty) → is_mistyped f (Valued w) e ≡ false → is_made_of allowed e ≡ true → (judged named e).zero_divisor ≡ false → has_wrong_exponent named e ≡ false → HasValue w (value_of named e)
@@ -180,7 +171,7 @@ module _ (f : Facts) (named : Told Value) (allowed : Name → Bool) (fine : (nam
   here (Expr-F.Binary op a b) w t m z x =
       let v : Option Ty = Some (takes op) in
       let types_of : (is_mistyped f (Valued v) a.0 || is_mistyped f (Valued v) b.0) ≡ false = or_right (differs w (Some (gives op))) _ t in
-      let made = both_parts (is_made_of allowed a.0) (is_made_of allowed b.0) m in
+      let made = both_true (is_made_of allowed a.0) (is_made_of allowed b.0) m in
       let zeros : ((judged named a.0).zero_divisor || (judged named b.0).zero_divisor) ≡ false = or_right (divides op (judged named b.0).value) _ z in
       let wrongs : (has_wrong_exponent named b.0 || is_no_exponent op (reckoned named b.0).value) ≡ false = or_right (has_wrong_exponent named a.0) _ x in
       between w op (value_of named a.0) (value_of named b.0) (or_left (differs w (Some (gives op))) _ t)
@@ -212,18 +203,8 @@ module _ (named all : Told Value) (more : (name : Name) (v : Value) → what nam
   abbrev Kept : Type 0
   Kept = (e : Expr) × Stays e
 
-  one_part : (g : Value → Option Value) (o : Option Value) (v : Value) → applied g o ≡ Some v → (x : Value) × (o ≡ Some x) × (g x ≡ Some v)
-  one_part g None v e = cc
-  one_part g (Some x) v e = (x, refl, e)
-
-  two_parts : (op : Op) (p q : Option Value) (v : Value) → operated op p q ≡ Some v → (x : Value) × (y : Value) × (p ≡ Some x) × (q ≡ Some y) × (operate op x y ≡ Some v)
-  two_parts op None None v e = cc
-  two_parts op None (Some y) v e = cc
-  two_parts op (Some x) None v e = cc
-  two_parts op (Some x) (Some y) v e = (x, y, refl, refl, e)
-
   through : (g : Value → Option Value) (e : Kept) (v : Value) → applied g (value_of named e.0) ≡ Some v → applied g (value_of all e.0) ≡ Some v
-  through g e v h = let x = one_part g (value_of named e.0) v h in ap (applied g) (e.1 x.0 x.1) ∙ x.2
+  through g e v h = let x = signed_value g (value_of named e.0) v h in ap (applied g) (e.1 x.0 x.1) ∙ x.2
 
   stays_here : (y : Expr-F Kept) (v : Value) → value_step named (map-Expr Expr (Option Value) (value_of named) (map-Expr Kept Expr (λ e. e.0) y)) ≡ Some v → value_step all (map-Expr Expr (Option Value) (value_of all) (map-Expr Kept Expr (λ e. e.0) y)) ≡ Some v
   stays_here (Expr-F.Int n) v h = h
@@ -236,7 +217,7 @@ module _ (named all : Told Value) (more : (name : Name) (v : Value) → what nam
   stays_here (Expr-F.Plus e) v h = through kept e v h
   stays_here (Expr-F.Not e) v h = through denied e v h
   stays_here (Expr-F.Binary op a b) v h =
-      let x = two_parts op (value_of named a.0) (value_of named b.0) v h in
+      let x = joined_value op (value_of named a.0) (value_of named b.0) v h in
       (λ i. operated op (a.1 x.0 x.2 i) (b.1 x.1 x.3 i)) ∙ x.4
 
   stays_at : (y : Expr-F Kept) → Stays (roll-Expr (map-Expr Kept Expr (λ e. e.0) y))
