@@ -1,0 +1,11 @@
+pub mod Images
+pub mod Alike
+pub mod Acting
+pub mod Running
+pub mod Layers
+pub mod Naming
+pub mod Places
+pub mod Looked
+pub mod Flowing
+pub mod Whole
+pub mod Texts
