@@ -5,13 +5,14 @@ use Rattle.std.specs.declared.option.Option.{Option}
 use Rattle.std.proofs.Math.Nat.{le_of_mul-le-mul_right}
 use Rattle.std.proofs.lemmas.Bool.{cases_lt}
 use Rattle.run_model.specs.Runs.{Run, Going, Finished, UndefinedAt, Wrong, text_of, Begins}
+use Rattle.f77_tree.specs.declared.unit.Unit.{Unit as SourceUnit}
 use Rattle.thin_form.specs.declared.statement.Statement.{Statement}
 use Rattle.thin_text.specs.Thin.{text_bytes}
 use Rattle.rv_machine.specs.declared.outcome.Outcome.{Outcome}
 use Rattle.rv_machine.specs.declared.outcome.Outcome.TheVariants.{Running, Halted, Trap}
 use Rattle.rv_machine.specs.Machine.{State, run, output}
 use Rattle.rv_machine.proofs.Steps.{output-grows, end_stays}
-use Rattle.thin_code.specs.Meaning.{Source}
+use Rattle.f77_running.specs.Source.{Source}
 use Rattle.thin_code.specs.Sizes.{steps_each, words_each}
 use Rattle.thin_code.specs.Agreement.{IsOrderly, HasEnded, IsUndefined}
 use Rattle.rn_session.specs.declared.status.Status.{Status}
@@ -42,18 +43,21 @@ module _ (bytes : List ℕ) (s : State) (started : StartsOn bytes s) (steps : �
   abbrev body : List Statement
   body = started.made.body
 
+  abbrev trees : List SourceUnit
+  trees = started.made.text.trees
+
   -- the steps of the program of which the run tells
   abbrev reach : ℕ
   reach = (steps + 1) * steps_each body
 
-  run_at : (r : Run) → Source body [] reach ≡ r → IsOrderly r
+  run_at : (r : Run) → Source trees [] reach ≡ r → IsOrderly r
   run_at r e = subst IsOrderly e (started.made.orderly [] reach)
 
   -- what the machine printed so far is a beginning of what the program prints
-  begins : (run steps s).outcome ≡ Running → IsDefined body → Begins (output steps s) (text_of (Source body [] reach))
-  begins running defined = go (Source body [] reach) refl
+  begins : (run steps s).outcome ≡ Running → IsDefined trees → Begins (output steps s) (text_of (Source trees [] reach))
+  begins running defined = go (Source trees [] reach) refl
     where
-      go : (r : Run) → Source body [] reach ≡ r → Begins (output steps s) (text_of r)
+      go : (r : Run) → Source trees [] reach ≡ r → Begins (output steps s) (text_of r)
       go (Going out) e =
           let k = started.made.agrees.going [] s started.loads reach out e in
           let l : steps + 1 ≤ k.count + 1 = le_of_mul-le-mul_right {m = steps + 1} {n = k.count + 1} {k = steps_each body} k.enough (omega arith) in
@@ -71,10 +75,10 @@ module _ (bytes : List ℕ) (s : State) (started : StartsOn bytes s) (steps : �
       go Wrong e = absurd (run_at Wrong e)
 
   -- the program ends as the machine does
-  ends : (status : ℕ) → (run steps s).outcome ≡ Halted status → IsDefined body → (Finishes body status (output steps s)) × (status ≡ 0)
-  ends status halted defined = go (Source body [] reach) refl (started.made.agrees.halted [] s started.loads steps status halted)
+  ends : (status : ℕ) → (run steps s).outcome ≡ Halted status → IsDefined trees → (Finishes trees status (output steps s)) × (status ≡ 0)
+  ends status halted defined = go (Source trees [] reach) refl (started.made.agrees.halted [] s started.loads steps status halted)
     where
-      go : (r : Run) → Source body [] reach ≡ r → HasEnded (Source body [] reach) → (Finishes body status (output steps s)) × (status ≡ 0)
+      go : (r : Run) → Source trees [] reach ≡ r → HasEnded (Source trees [] reach) → (Finishes trees status (output steps s)) × (status ≡ 0)
       go (Going out) e h = absurd (subst HasEnded e h)
       go (Finished other out) e h =
           let k = started.made.agrees.ended [] s started.loads reach other out e in
@@ -94,7 +98,7 @@ module _ (bytes : List ℕ) (s : State) (started : StartsOn bytes s) (steps : �
       go (inr l) = absurd (started.made.bound [] s started.loads steps l running)
 
   -- a program that ends at step n has ended once n * W + 2 instructions are done
-  late : (run steps s).outcome ≡ Running → (n status : ℕ) (out : List ℕ) → Source body [] n ≡ Finished status out → steps < n * words_each body + 2
+  late : (run steps s).outcome ≡ Running → (n status : ℕ) (out : List ℕ) → Source trees [] n ≡ Finished status out → steps < n * words_each body + 2
   late running n status out e = go (cases_lt steps (n * words_each body + 2))
     where
       go : (steps < n * words_each body + 2) ⊎ (n * words_each body + 2 ≤ steps) → steps < n * words_each body + 2

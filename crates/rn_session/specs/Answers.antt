@@ -11,7 +11,8 @@ use Rattle.f77_tree.specs.declared.fault.Refused.TheVariants.{Fault, OutOfMemory
 use Rattle.thin_form.specs.declared.statement.Statement.{Statement}
 use Rattle.thin_text.specs.Thin.{text_bytes}
 use Rattle.rn_session.specs.Texts.{IsThinText, IsTextFault}
-use Rattle.thin_code.specs.Meaning.{Source}
+use Rattle.f77_running.specs.Source.{Source}
+use Rattle.thin_code.specs.Sizes.{steps_each, words_each}
 use Rattle.thin_code.specs.Agreement.{Agrees, EndsWithin, IsOrderly}
 use Rattle.rv_machine.specs.Start.{Loads}
 use Rattle.rv_machine.specs.Machine.{State}
@@ -20,13 +21,13 @@ use Rattle.rn_session.specs.declared.status.Status.TheVariants.{Ok as Done, BadW
 use Rattle.rn_session.specs.Words.{steps_of}
 use Rattle.rn_session.specs.Replies.{Reply, run_reply, fault_reply, MayEnd}
 
--- A file that agrees with the thin program that a text is. Its machine ends within 64 instructions and 32 for each byte of the
--- statement texts; the program itself ends with status 0 or never.
+-- A file that agrees with the program that a thin text is, by the runs of its units. Its machine ends within 64 instructions and 32 for
+-- each byte of the statement texts; the program itself ends with status 0 or never.
 pub record IsFileOf (bytes file : List ℕ) : Type 0 where
   pub body : List Statement
   pub text : IsThinText bytes body
-  pub orderly : (input : List ℤ) (n : ℕ) → IsOrderly (Source body input n)
-  pub agrees : Agrees body file
+  pub orderly : (input : List ℤ) (n : ℕ) → IsOrderly (Source text.trees input n)
+  pub agrees : Agrees (Source text.trees) (steps_each body) (words_each body) file
   pub bound : EndsWithin file (64 + 32 * text_bytes text.units)
 
 -- the greatest number of bytes of an input

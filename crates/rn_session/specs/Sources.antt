@@ -1,10 +1,11 @@
--- What the status of `one STEPS` says of the source.
+-- What the status of `one STEPS` says of the source, by the runs of the text's units.
 use Rattle.std.specs.Prelude.{◌≡◌, ℕ, ◌+◌, ◌*◌, ◌<◌, List, [], ◌++◌, codes, decimal}
 use Rattle.std.specs.Io.KnownBytes.{Appends}
 use Rattle.std.specs.declared.option.Option.{Option}
-use Rattle.thin_form.specs.declared.statement.Statement.{Statement}
 use Rattle.run_model.specs.Runs.{Finished, Begins, text_of}
-use Rattle.thin_code.specs.Meaning.{Source}
+use Rattle.f77_tree.specs.declared.unit.Unit.{Unit as SourceUnit}
+use Rattle.f77_running.specs.Source.{Source}
+use Rattle.thin_form.specs.declared.statement.Statement.{Statement}
 use Rattle.thin_code.specs.Sizes.{steps_each, words_each}
 use Rattle.thin_code.specs.Agreement.{IsUndefined}
 use Rattle.rn_session.specs.declared.status.Status.{Status}
@@ -14,13 +15,13 @@ use Rattle.thin_text.specs.Thin.{text_bytes}
 use Rattle.rn_session.specs.Texts.{IsThinText}
 
 -- The program meets no undefined action, whatever number of steps it is given.
-abbrev pub IsDefined : List Statement → Type 0
-IsDefined body = (n : ℕ) → IsUndefined (Source body [] n) → ⊥
+abbrev pub IsDefined : List SourceUnit → Type 0
+IsDefined trees = (n : ℕ) → IsUndefined (Source trees [] n) → ⊥
 
 -- The program ends with this status and this output.
-pub record Finishes (body : List Statement) (status : ℕ) (out : List ℕ) : Type 0 where
+pub record Finishes (trees : List SourceUnit) (status : ℕ) (out : List ℕ) : Type 0 where
   pub steps : ℕ
-  pub ends : Source body [] steps ≡ Finished status out
+  pub ends : Source trees [] steps ≡ Finished status out
 
 -- The sink got an output and `ended K`. Where the program is defined that is its whole output, and K is 0, its status.
 pub record RanToTheEnd (bytes : List ℕ) (old new : Option (List ℕ)) : Type 0 where
@@ -29,8 +30,8 @@ pub record RanToTheEnd (bytes : List ℕ) (old new : Option (List ℕ)) : Type 0
   pub status : ℕ
   pub out : List ℕ
   pub wrote : Appends old new (out ++ behind out (codes "ended " ++ decimal status ++ codes "\n"))
-  pub whole : IsDefined body → Finishes body status out
-  pub zero : IsDefined body → status ≡ 0
+  pub whole : IsDefined text.trees → Finishes text.trees status out
+  pub zero : IsDefined text.trees → status ≡ 0
 
 -- The sink got an output, and what follows it as far as it took that. Where the program is defined the output is a beginning of
 -- what it prints in (STEPS + 1) * L steps. STEPS is below the number of instructions by which every program of this length has ended,
@@ -41,16 +42,16 @@ pub record RanOutOfSteps (steps : ℕ) (bytes : List ℕ) (old new : Option (Lis
   pub out : List ℕ
   pub more : List ℕ
   pub wrote : Appends old new (out ++ more)
-  pub begins : IsDefined body → Begins out (text_of (Source body [] ((steps + 1) * steps_each body)))
+  pub begins : IsDefined text.trees → Begins out (text_of (Source text.trees [] ((steps + 1) * steps_each body)))
   pub few : steps < 64 + 32 * text_bytes text.units
-  pub late : (n status : ℕ) (ended : List ℕ) → Source body [] n ≡ Finished status ended → steps < n * words_each body + 2
+  pub late : (n status : ℕ) (ended : List ℕ) → Source text.trees [] n ≡ Finished status ended → steps < n * words_each body + 2
 
 -- The program meets an undefined action.
 pub record RanIntoATrap (bytes : List ℕ) : Type 0 where
   pub body : List Statement
   pub text : IsThinText bytes body
   pub steps : ℕ
-  pub undefined : IsUndefined (Source body [] steps)
+  pub undefined : IsUndefined (Source text.trees [] steps)
 
 -- What a status says of the program, where it says something.
 abbrev pub SaysOfSource : Status → (steps : ℕ) → (bytes : List ℕ) → (old new : Option (List ℕ)) → Type 0

@@ -1,5 +1,5 @@
 -- What a text is as a program: its units, their trees, and the thin program that they are; and the fault of a text that is none.
-use Rattle.std.specs.Prelude.{◌≡◌, ℕ, List}
+use Rattle.std.specs.Prelude.{ℕ, List}
 use Rattle.f77_tree.specs.declared.fault.SourceFault.{SourceFault}
 use Rattle.f77_tree.specs.declared.fault.Refused.{Refused}
 use Rattle.f77_tree.specs.declared.fault.Refused.TheVariants.{Fault, OutOfMemory as Starved}

@@ -18,6 +18,7 @@ use rv_machine::{ElfRefused, Machine};
 use std::alloc::{AllocError, Global};
 use thin_code::program_file;
 use thin_form::Statement;
+use thin_meaning::texts_law;
 use thin_text::{Thin, sizes_law, thin_of};
 
 /// What is found of a thin text, where its draft was accepted.
@@ -59,6 +60,7 @@ pub fn thin_file<T: Tally>(alloc: Global, text: &[u8], tally: &mut T) -> Result<
     ensures noted { OnOk result (T.notes tally.new ≡ T.notes tally.old ++ compiled) }
     ensures silent { OnErr result (T.notes tally.new ≡ T.notes tally.old) }
 {
+    texts_law();
     let body = match thin_body(alloc, text) {
         Ok(body) => body,
         Err(refused) => return Err(refused),

@@ -10,7 +10,7 @@ use Rattle.thin_form.specs.declared.statement.Statement.TheVariants.{End}
 use Rattle.thin_form.specs.Programs.{size_of, IsProgram, IsSmall}
 use Rattle.rv_machine.specs.declared.outcome.Outcome.TheVariants.{Running, Halted}
 use Rattle.rv_machine.specs.Machine.{State}
-use Rattle.thin_code.specs.Meaning.{fresh}
+use Rattle.thin_code.specs.Meaning.{fresh, Source}
 use Rattle.thin_code.specs.Sizes.{weight_of, steps_each, words_each}
 use Rattle.thin_code.specs.Code.{frame_of, file_of}
 use Rattle.thin_code.specs.Agreement.{Reaches, Ends, HasEnded, Agrees, EndsWithin}
@@ -68,7 +68,7 @@ module _ (body : List Statement) (p : IsProgram body) where
 -- ---- the four parts
 
 module _ (body : List Statement) (p : IsProgram body) (input : List ℤ) (s : State) (b : Begun (frame_of body) p.front s) where
-  reaches : (n : ℕ) (out : List ℕ) (o : Outcome Answer) → Comes (frame_of body) p.front n s.mem (fresh input n) o → answer n o ≡ Going out → Reaches body s n out
+  reaches : (n : ℕ) (out : List ℕ) (o : Outcome Answer) → Comes (frame_of body) p.front n s.mem (fresh input n) o → answer n o ≡ Going out → Reaches (steps_each body) (words_each body) s n out
   reaches n out o (going v l e t) a =
       let d = done (frame_of body) p.front s n b in
       let text : v.out ≡ out = going_out v.out out (ap (answer n) (sym e) ∙ a) in
@@ -85,7 +85,7 @@ module _ (body : List Statement) (p : IsProgram body) (input : List ℤ) (s : St
   reaches n out o (ended v l e t) a = let z : Finished 0 v.out ≡ Going out = ap (answer n) (sym e) ∙ a in absurd (cc)
   reaches n out o (undefined c v e) a = let z : UndefinedAt (n - v.left) c v.out ≡ Going out = ap (answer n) (sym e) ∙ a in absurd (cc)
 
-  ends : (n status : ℕ) (out : List ℕ) (o : Outcome Answer) → Comes (frame_of body) p.front n s.mem (fresh input n) o → answer n o ≡ Finished status out → Ends body s n status out
+  ends : (n status : ℕ) (out : List ℕ) (o : Outcome Answer) → Comes (frame_of body) p.front n s.mem (fresh input n) o → answer n o ≡ Finished status out → Ends (words_each body) s n status out
   ends n status out o (going v l e t) a = let z : Going v.out ≡ Finished status out = ap (answer n) (sym e) ∙ a in absurd (cc)
   ends n status out o (ended v l e t) a =
       let z : Finished 0 v.out ≡ Finished status out = ap (answer n) (sym e) ∙ a in
@@ -105,7 +105,7 @@ module _ (body : List Statement) (p : IsProgram body) (input : List ℤ) (s : St
   has_ended n o h (ended v l e t) = subst (λ o. HasEnded (answer n o)) (sym e) tt
   has_ended n o h (undefined c v e) = subst (λ o. HasEnded (answer n o)) (sym e) tt
 
-pub agrees : (body : List Statement) → IsProgram body → IsSmall body → Agrees body (file_of body)
+pub agrees : (body : List Statement) → IsProgram body → IsSmall body → Agrees (Source body) (steps_each body) (words_each body) (file_of body)
 agrees body p q = record {
   shaped = λ none. none _ _ _ (shaped body q);
   going = λ input s h n out e. let b = begun body p q input s h in reaches body p input s b n out _ (source body p input s b n) e;

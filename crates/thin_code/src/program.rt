@@ -6,6 +6,7 @@ ghost use Rattle.thin_code.specs.Layout.{names_of};
 ghost use Rattle.thin_code.specs.Code.{file_of};
 ghost use Rattle.thin_code.specs.Meaning.{Source};
 ghost use Rattle.thin_code.specs.Agreement.{Agrees, EndsWithin, IsOrderly};
+ghost use Rattle.thin_code.specs.Sizes.{steps_each, words_each};
 
 use super::area::Area;
 use super::names::names_of;
@@ -18,7 +19,7 @@ use thin_form::Statement;
 pub fn program_file(alloc: Global, body: &[Statement]) -> Result<Vec<u8>, AllocError>
     requires program { IsProgram body.now }
     requires small { IsSmall body.now }
-    ensures agrees { IfOk result (λ file. Agrees body.now file.items) }
+    ensures agrees { IfOk result (λ file. Agrees (Source body.now) (steps_each body.now) (words_each body.now) file.items) }
     // The run of a program is never stuck, and ends with status 0.
     ensures orderly { (input : List ℤ) (n : ℕ) → IsOrderly (Source body.now input n) }
     ensures bound { IfOk result (λ file. EndsWithin file.items (64 + 32 * sum_by size_of body.now)) }
