@@ -1,0 +1,15 @@
+pub mod Lists
+pub mod Exact
+pub mod Telling
+pub mod Behind
+pub mod Layers
+pub mod Parts
+pub mod Items
+pub mod Coming
+pub mod Preludes
+pub mod Dimensions
+pub mod Keeping
+pub mod Zipping
+pub mod Giving
+pub mod Lining
+pub mod Whole
