@@ -1,0 +1,10 @@
+pub mod Items
+pub mod Gathering
+pub mod Bounding
+pub mod Entering
+pub mod Lining
+pub mod Finding
+pub mod Calling
+pub mod Stepping
+pub mod Rounds
+pub mod Turning

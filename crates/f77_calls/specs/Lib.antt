@@ -1,0 +1,5 @@
+pub mod Gathering
+pub mod Procedures
+pub mod Entries
+pub mod Bounds
+pub mod Calls

@@ -1,0 +1,233 @@
+//! Bounds of dummy arrays, and the shapes that they give.
+ghost use Rattle.std.specs.Prelude.{◌≡◌, [], ◌++◌, None, Some, MatchOption, IfOk, IfSome, ◌<◌, length, map, pos, ◌+ℤ◌, ◌-ℤ◌, nat_lt, if◌then◌else◌};
+ghost use Rattle.run_model.specs.Acts as a;
+ghost use Rattle.f77_running.specs.Units as u;
+ghost use Rattle.f77_running.specs.Values as v;
+ghost use Rattle.f77_code.specs.Denoted.{extent_of};
+ghost use Rattle.f77_code.specs.Entries as c;
+ghost use Rattle.f77_code.specs.Steps as s;
+ghost use Rattle.f77_steps.specs.Stacks.{operand_of, stack_of};
+ghost use Rattle.f77_steps.specs.Stops.{Gives};
+ghost use Rattle.f77_calls.specs.Bounds as b;
+ghost use Rattle.f77_calls.specs.Gathering.{behind};
+
+use f77_code::Extent;
+use f77_steps::{Operand, Stop};
+use f77_tree::{List, Value};
+use std::alloc::{AllocError, Global};
+
+// A lower bound, with an upper bound or with the number of subscripts from the one to the other. `*` has neither.
+type Pair = (i64, Option<i64>);
+
+type Sized = (i64, Option<u64>);
+
+fn lower_on<'s, 'a>(operands: &'s [Operand<'a>]) -> Option<(i64, &'s [Operand<'a>])>
+    ensures value { MatchOption result (b.lower_on (map operand_of operands.now) ≡ None) (λ p. b.lower_on (map operand_of operands.now) ≡ Some (p.0, map operand_of p.1.now)) }
+    ensures shorter { IfSome result (λ p. length p.1.now < length operands.now) }
+{
+    match operands.split_first() {
+        Some((Operand::Item(Value::Integer(x)), others)) => Some((*x, others)),
+        _ => None,
+    }
+}
+
+fn upper_on<'s, 'a>(operands: &'s [Operand<'a>]) -> Option<(Option<i64>, &'s [Operand<'a>])>
+    ensures value { MatchOption result (b.upper_on (map operand_of operands.now) ≡ None) (λ p. b.upper_on (map operand_of operands.now) ≡ Some (p.0, map operand_of p.1.now)) }
+    ensures shorter { IfSome result (λ p. length p.1.now < length operands.now) }
+{
+    match operands.split_first() {
+        Some((Operand::Mark, others)) => Some((None, others)),
+        Some((Operand::Item(Value::Integer(x)), others)) => Some((Some(*x), others)),
+        _ => None,
+    }
+}
+
+// A lower and an upper bound, and what stands above.
+fn pair_on<'s, 'a>(operands: &'s [Operand<'a>]) -> Option<(Pair, &'s [Operand<'a>])>
+    ensures value { MatchOption result (b.pair_on (map operand_of operands.now) ≡ None) (λ p. b.pair_on (map operand_of operands.now) ≡ Some (p.0, map operand_of p.1.now)) }
+    ensures shorter { IfSome result (λ p. length p.1.now < length operands.now) }
+{
+    let (lower, others) = lower_on(operands)?;
+    let (upper, others) = upper_on(others)?;
+    Some(((lower, upper), others))
+}
+
+fn push_pairs(all: &mut List<Pair>, operands: &[Operand]) -> Result<(), Stop>
+    ensures { Gives result (λ _. all.new) (behind all.old (b.pairs_of (map operand_of operands.now))) }
+{
+    match operands.split_first() {
+        None => Ok(()),
+        Some(_) => match pair_on(operands) {
+            Some((pair, others)) => {
+                all.push(pair)?;
+                push_pairs(all, others)
+            }
+            None => Err(Stop::Stuck),
+        },
+    }
+}
+
+// The number of subscripts from a lower to an upper bound, which is above 0.
+fn size_from(lower: i64, upper: i64) -> Result<u64, Stop>
+    ensures { Gives result (λ n. n) (v.or_fail (a.Undefined 4) (u.positive ((upper -ℤ lower) +ℤ pos 1))) }
+{
+    if upper < lower {
+        return Err(Stop::Undefined(4));
+    }
+    let size = upper.abs_diff(lower).checked_add(1).ok_or(AllocError)?;
+    Ok(size)
+}
+
+fn sized(pair: &Pair) -> Result<Sized, Stop>
+    ensures { Gives result (λ e. e) (b.sized pair.now) }
+{
+    match pair.1 {
+        None => Ok((pair.0, None)),
+        Some(upper) => {
+            let size = size_from(pair.0, upper)?;
+            Ok((pair.0, Some(size)))
+        }
+    }
+}
+
+fn push_extents(all: &mut List<Sized>, pairs: &[Pair]) -> Result<(), Stop>
+    ensures { Gives result (λ _. all.new) (behind all.old (u.extents pairs.now)) }
+{
+    match pairs.split_first() {
+        None => Ok(()),
+        Some((pair, others)) => match sized(pair) {
+            Ok(extent) => {
+                all.push(extent)?;
+                push_extents(all, others)
+            }
+            Err(stop) => Err(stop),
+        },
+    }
+}
+
+// The product of the known extents.
+fn product(extents: &[Sized]) -> Result<u64, AllocError>
+    ensures { IfOk result (λ n. n ≡ u.product extents.now) }
+{
+    match extents.split_first() {
+        None => Ok(1),
+        Some(((_, None), others)) => product(others),
+        Some(((_, Some(size)), others)) => {
+            let rows = product(others)?;
+            size.checked_mul(rows).ok_or(AllocError)
+        }
+    }
+}
+
+fn divide(n: u64, d: u64) -> u64
+    ensures { result ≡ u.divide n d }
+{
+    if d == 0 { 0 } else { n / d }
+}
+
+// With `*` for an upper bound, that is what is left.
+fn filled_one(star: u64, extent: &Sized) -> Result<Extent, Stop>
+    ensures { Gives result extent_of (b.filled_one star extent.now) }
+{
+    match extent.1 {
+        Some(size) => Ok(Extent {
+            lower: extent.0,
+            size,
+        }),
+        None => {
+            if star < 1 {
+                Err(Stop::Undefined(4))
+            } else {
+                Ok(Extent {
+                    lower: extent.0,
+                    size: star,
+                })
+            }
+        }
+    }
+}
+
+fn push_filled(all: &mut List<Extent>, star: u64, extents: &[Sized]) -> Result<(), Stop>
+    ensures { Gives result (λ _. map extent_of all.new) (behind (map extent_of all.old) (u.filled star extents.now)) }
+{
+    match extents.split_first() {
+        None => Ok(()),
+        Some((extent, others)) => match filled_one(star, extent) {
+            Ok(extent) => {
+                all.push(extent)?;
+                push_filled(all, star, others)
+            }
+            Err(stop) => Err(stop),
+        },
+    }
+}
+
+fn total(extents: &[Extent]) -> Result<u64, AllocError>
+    ensures { IfOk result (λ n. n ≡ u.total (map extent_of extents.now)) }
+{
+    match extents.split_first() {
+        None => Ok(1),
+        Some((extent, others)) => {
+            let rows = total(others)?;
+            extent.size.checked_mul(rows).ok_or(AllocError)
+        }
+    }
+}
+
+fn pairs_in(alloc: Global, operands: &[Operand]) -> Result<List<Pair>, Stop>
+    ensures { Gives result (λ ps. ps) (b.pairs_of (s.operands_onto (stack_of operands.now) [])) }
+{
+    let mut all = List::new(alloc);
+    match push_pairs(&mut all, operands) {
+        Ok(()) => Ok(all),
+        Err(stop) => Err(stop),
+    }
+}
+
+fn extents_of(alloc: Global, pairs: &[Pair]) -> Result<List<Sized>, Stop>
+    ensures { Gives result (λ es. es) (u.extents pairs.now) }
+{
+    let mut all = List::new(alloc);
+    match push_extents(&mut all, pairs) {
+        Ok(()) => Ok(all),
+        Err(stop) => Err(stop),
+    }
+}
+
+fn filled(alloc: Global, star: u64, extents: &[Sized]) -> Result<List<Extent>, Stop>
+    ensures { Gives result (λ es. map extent_of es) (u.filled star extents.now) }
+{
+    let mut all = List::new(alloc);
+    match push_filled(&mut all, star, extents) {
+        Ok(()) => Ok(all),
+        Err(stop) => Err(stop),
+    }
+}
+
+// A shape that has room in an actual argument of so many storage units.
+fn fitting(long: u64, shape: List<Extent>) -> Result<List<Extent>, Stop>
+    ensures { Gives result (λ es. map extent_of es) (if nat_lt long (u.total (map extent_of shape)) then a.Fail (a.Undefined 3) else a.Done (map extent_of shape)) }
+{
+    if long < total(shape.as_slice())? {
+        Err(Stop::Undefined(3))
+    } else {
+        Ok(shape)
+    }
+}
+
+fn measured(alloc: Global, long: u64, pairs: &[Pair]) -> Result<List<Extent>, Stop>
+    ensures { Gives result (λ es. map extent_of es) (c.measured long pairs.now) }
+{
+    let extents = extents_of(alloc, pairs)?;
+    let star = divide(long, product(extents.as_slice())?);
+    let shape = filled(alloc, star, extents.as_slice())?;
+    fitting(long, shape)
+}
+
+/// The shape of a dummy array whose bounds are these operands, the first lowest, and whose actual argument has so many storage units.
+pub fn shaped(alloc: Global, long: u64, operands: &[Operand]) -> Result<List<Extent>, Stop>
+    ensures { Gives result (λ es. map extent_of es) (c.shaped long (stack_of operands.now)) }
+{
+    let pairs = pairs_in(alloc, operands)?;
+    measured(alloc, long, pairs.as_slice())
+}
