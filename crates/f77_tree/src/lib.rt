@@ -17,6 +17,3 @@ pub use name::{Name, blank_name, is_name, name_of};
 pub use sqlite_items::{Boxed as Box, Items as List};
 pub use unit::{Item, Stmt, Ty, Unit, UnitKind, Value};
 pub use weights::weight;
-
-#[cfg(test)]
-mod tests;

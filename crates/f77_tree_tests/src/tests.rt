@@ -1,4 +1,4 @@
-use super::{
+use f77_tree::{
     Box, DataConst, Declarator, Duplicate, Expr, Form, Item, List, Name, Op, Stmt, Unit, UnitKind,
     blank_name, name_of, weight,
 };
@@ -81,28 +81,67 @@ fn unit(alloc: Global, statements: List<Stmt>) -> Result<Unit, AllocError> {
     })
 }
 
+/// `IF (.TRUE.) GO TO 10`
+fn guarded(alloc: Global) -> Result<Form, AllocError> {
+    Ok(Form::LogicalIf(Expr::Truth(true), Box::new(alloc, Form::GoTo(10))?))
+}
+
+/// The first statement alone.
+fn one_statement(alloc: Global) -> Result<List<Stmt>, AllocError> {
+    let mut all = List::new(alloc);
+    push(&mut all, 10, assignment(alloc)?)?;
+    Ok(all)
+}
+
+fn all_statements(alloc: Global) -> Result<List<Stmt>, AllocError> {
+    let mut all = one_statement(alloc)?;
+    push(&mut all, 0, print(alloc)?)?;
+    push(&mut all, 0, data(alloc)?)?;
+    push(&mut all, 0, common(alloc)?)?;
+    push(&mut all, 0, guarded(alloc)?)?;
+    push(&mut all, 0, Form::End)?;
+    Ok(all)
+}
+
+/// The weight of a unit with a copy of these statements.
+fn weight_of_copies(alloc: Global, statements: &List<Stmt>) -> Result<u64, AllocError> {
+    Ok(weight(&unit(alloc, statements.duplicate(alloc)?)?))
+}
+
+/// The weight and the tokens of a unit, and whether its name is MAIN.
+fn told(unit: &Unit) -> (u64, u32, bool) {
+    let is_main = unit.name.as_bytes() == b"MAIN".as_slice();
+    (weight(unit), unit.tokens, is_main)
+}
+
+fn told_copy(alloc: Global, unit: &Unit) -> Result<(u64, u32, bool), AllocError> {
+    Ok(told(&unit.copy(alloc)?))
+}
+
 #[test]
-fn weighs_and_copies_units(rt: HostRuntime) -> Result<(), Fail> {
+fn weighs_copies_of_statements(rt: HostRuntime) -> Result<(), Fail> {
     let alloc = rt.alloc();
-    let mut statements = List::new(alloc);
-    push(&mut statements, 10, assignment(alloc)?)?;
-    let small = unit(alloc, statements.duplicate(alloc)?)?;
-    assert_eq!(rt; weight(&small), 6);
-    push(&mut statements, 0, print(alloc)?)?;
-    push(&mut statements, 0, data(alloc)?)?;
-    push(&mut statements, 0, common(alloc)?)?;
-    push(
-        &mut statements,
-        0,
-        Form::LogicalIf(Expr::Truth(true), Box::new(alloc, Form::GoTo(10))?),
-    )?;
-    push(&mut statements, 0, Form::End)?;
-    let whole = unit(alloc, statements)?;
+    let found = weight_of_copies(alloc, &one_statement(alloc)?)?;
+    assert_eq!(rt; found, 6);
+    Ok(())
+}
+
+#[test]
+fn weighs_units(rt: HostRuntime) -> Result<(), Fail> {
+    let alloc = rt.alloc();
+    let whole = unit(alloc, all_statements(alloc)?)?;
     assert_eq!(rt; weight(&whole), 6 + 6 + 5 + 3 + 4 + 1);
-    let again = whole.copy(alloc)?;
-    assert_eq!(rt; weight(&again), 25);
-    assert_eq!(rt; again.tokens, 40);
-    assert_eq!(rt; again.name.as_bytes(), b"MAIN".as_slice());
+    Ok(())
+}
+
+#[test]
+fn copies_units(rt: HostRuntime) -> Result<(), Fail> {
+    let alloc = rt.alloc();
+    let whole = unit(alloc, all_statements(alloc)?)?;
+    let (weight, tokens, is_main) = told_copy(alloc, &whole)?;
+    assert_eq!(rt; weight, 25);
+    assert_eq!(rt; tokens, 40);
+    assert!(rt; is_main);
     Ok(())
 }
 
@@ -117,23 +156,24 @@ fn copies_items(rt: HostRuntime) -> Result<(), Fail> {
     Ok(())
 }
 
+static WORDS: [(&str, &str); 8] = [
+    ("k_2", "K_2"),
+    ("MAIN", "MAIN"),
+    (
+        "a234567890123456789012345678901",
+        "A234567890123456789012345678901",
+    ),
+    ("a2345678901234567890123456789012", ""),
+    ("2A", ""),
+    ("_A", ""),
+    ("A B", ""),
+    ("", ""),
+];
+
 #[test]
 fn names_are_words_of_31_characters(rt: HostRuntime) -> Result<(), Fail> {
     let alloc = rt.alloc();
-    let cases = [
-        ("k_2", "K_2"),
-        ("MAIN", "MAIN"),
-        (
-            "a234567890123456789012345678901",
-            "A234567890123456789012345678901",
-        ),
-        ("a2345678901234567890123456789012", ""),
-        ("2A", ""),
-        ("_A", ""),
-        ("A B", ""),
-        ("", ""),
-    ];
-    for (word, wanted) in cases {
+    for (word, wanted) in &WORDS {
         let found = match name_of(alloc, word.as_bytes())? {
             Some(found) => found,
             None => blank_name(alloc),
