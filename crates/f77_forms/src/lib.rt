@@ -31,8 +31,3 @@ pub use f77_tree::{DataConst, Declarator, Expr, Form, List, Name, TypeWord};
 pub use foreign::is_foreign;
 pub use form::form_of;
 pub use laws::forms_law;
-
-#[cfg(test)]
-mod specification_tests;
-#[cfg(test)]
-mod tests;

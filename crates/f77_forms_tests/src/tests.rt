@@ -1,4 +1,4 @@
-use super::{Form, form_of, is_foreign};
+use f77_forms::{Form, form_of, is_foreign};
 use f77_tree::{TypeWord, UnitKind};
 use std::alloc::{AllocError, Global};
 use std::test::Fail;
@@ -66,11 +66,16 @@ fn told_inside(inner: &Form) -> usize {
     }
 }
 
-fn told_text(alloc: Global, text: &str) -> Result<(&'static str, usize), AllocError> {
-    match form_of(alloc, text.as_bytes())? {
-        Some(form) => Ok(told(&form)),
-        None => Ok(("none", 0)),
+fn told_found(found: &Option<Form>) -> (&'static str, usize) {
+    match found {
+        Some(form) => told(form),
+        None => ("none", 0),
     }
+}
+
+fn told_text(alloc: Global, text: &str) -> Result<(&'static str, usize), AllocError> {
+    let found = form_of(alloc, text.as_bytes())?;
+    Ok(told_found(&found))
 }
 
 static HEADS_AND_WORDS: [(&'static str, &'static str, usize); 34] = [

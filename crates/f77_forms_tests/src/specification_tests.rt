@@ -1,13 +1,6 @@
-use super::common::common;
-use super::data::data;
-use super::declarators::{arrays, declarators};
-use super::implicit::implicit;
-use super::names::names;
-use super::parameter::parameter;
-use super::save::save;
-use super::{DataConst, Declarator, Expr, List, Name, TypeWord};
-use f77_expr::tokens;
-use f77_tree::{Op, Place, Refused};
+//! Specification statements, by the text behind their word.
+use f77_forms::form_of;
+use f77_tree::{DataConst, Declarator, Expr, Form, List, Name, Op, TypeWord};
 use std::alloc::{AllocError, Global};
 use std::test::Fail;
 
@@ -194,295 +187,270 @@ fn shown_groups(
     Ok(text)
 }
 
-fn shown_saved(alloc: Global, all: &(List<Name>, List<Name>)) -> Result<Vec<u8>, AllocError> {
-    let names = shown_names(alloc, &all.0)?;
-    let blocks = shown_names(alloc, &all.1)?;
+fn shown_saved(
+    alloc: Global,
+    saved: &List<Name>,
+    blocks: &List<Name>,
+) -> Result<Vec<u8>, AllocError> {
+    let names = shown_names(alloc, saved)?;
+    let blocks = shown_names(alloc, blocks)?;
     [names.as_slice(), b"|".as_slice(), blocks.as_slice()].concat(alloc)
 }
 
-fn place() -> Place {
-    Place {
-        unit: None,
-        line: 1,
+fn shown_form(alloc: Global, form: &Form) -> Result<Vec<u8>, AllocError> {
+    match form {
+        Form::Typed(_, all) => shown_declarators(alloc, all),
+        Form::Dimension(all) => shown_declarators(alloc, all),
+        Form::Common(blocks) => shown_blocks(alloc, blocks),
+        Form::Parameter(all) => shown_constants(alloc, all),
+        Form::External(all) => shown_names(alloc, all),
+        Form::Save(saved, blocks) => shown_saved(alloc, saved, blocks),
+        Form::Implicit(rules) => shown_rules(alloc, rules),
+        Form::DataRuns(groups) => shown_groups(alloc, groups),
+        Form::Assign(_, _) => [b"assignment".as_slice()].concat(alloc),
+        Form::ImplicitNone => [b"none".as_slice()].concat(alloc),
+        _ => [b"another".as_slice()].concat(alloc),
     }
 }
 
-fn nothing(alloc: Global) -> Result<Vec<u8>, Refused> {
-    Ok([b"-".as_slice()].concat(alloc)?)
-}
-
-fn told_declarators(alloc: Global, text: &str) -> Result<Vec<u8>, Refused> {
-    let all = tokens(alloc, text.as_bytes(), &place())?;
-    match declarators(alloc, all.as_slice())? {
-        Some(found) => Ok(shown_declarators(alloc, &found)?),
-        None => nothing(alloc),
+fn shown_found(alloc: Global, found: &Option<Form>) -> Result<Vec<u8>, AllocError> {
+    match found {
+        Some(form) => shown_form(alloc, form),
+        None => [b"-".as_slice()].concat(alloc),
     }
 }
 
-fn told_arrays(alloc: Global, text: &str) -> Result<Vec<u8>, Refused> {
-    let all = tokens(alloc, text.as_bytes(), &place())?;
-    match arrays(alloc, all.as_slice())? {
-        Some(found) => Ok(shown_declarators(alloc, &found)?),
-        None => nothing(alloc),
-    }
+fn told_text(alloc: Global, text: &[u8]) -> Result<Vec<u8>, AllocError> {
+    let found = form_of(alloc, text)?;
+    shown_found(alloc, &found)
 }
 
-fn told_common(alloc: Global, text: &str) -> Result<Vec<u8>, Refused> {
-    let all = tokens(alloc, text.as_bytes(), &place())?;
-    match common(alloc, all.as_slice())? {
-        Some(found) => Ok(shown_blocks(alloc, &found)?),
-        None => nothing(alloc),
-    }
+/// What the statement of a word and a text behind it tells, or `-` where that is no statement.
+fn told(alloc: Global, word: &str, text: &str) -> Result<Vec<u8>, AllocError> {
+    let whole = [word.as_bytes(), text.as_bytes()].concat(alloc)?;
+    told_text(alloc, whole.as_slice())
 }
 
-fn told_parameter(alloc: Global, text: &str) -> Result<Vec<u8>, Refused> {
-    let all = tokens(alloc, text.as_bytes(), &place())?;
-    match parameter(alloc, all.as_slice())? {
-        Some(found) => Ok(shown_constants(alloc, &found)?),
-        None => nothing(alloc),
-    }
-}
-
-fn told_names(alloc: Global, text: &str) -> Result<Vec<u8>, Refused> {
-    let all = tokens(alloc, text.as_bytes(), &place())?;
-    match names(alloc, all.as_slice())? {
-        Some(found) => Ok(shown_names(alloc, &found)?),
-        None => nothing(alloc),
-    }
-}
-
-fn told_save(alloc: Global, text: &str) -> Result<Vec<u8>, Refused> {
-    let all = tokens(alloc, text.as_bytes(), &place())?;
-    match save(alloc, all.as_slice())? {
-        Some(found) => Ok(shown_saved(alloc, &found)?),
-        None => nothing(alloc),
-    }
-}
-
-fn told_implicit(alloc: Global, text: &str) -> Result<Vec<u8>, Refused> {
-    let all = tokens(alloc, text.as_bytes(), &place())?;
-    match implicit(alloc, all.as_slice())? {
-        Some(found) => Ok(shown_rules(alloc, &found)?),
-        None => nothing(alloc),
-    }
-}
-
-fn told_data(alloc: Global, text: &str) -> Result<Vec<u8>, Refused> {
-    let all = tokens(alloc, text.as_bytes(), &place())?;
-    match data(alloc, all.as_slice())? {
-        Some(found) => Ok(shown_groups(alloc, &found)?),
-        None => nothing(alloc),
-    }
-}
+static DECLARATORS: [(&str, &str); 23] = [
+    ("A", "A"),
+    ("A,B(3),C", "A B(3) C"),
+    ("K(2,*,2)", "K(2,*,2)"),
+    ("K(-1:1,*)", "K([-1]:1,*)"),
+    ("K(N:*,L:M)", "K(N:*,L:M)"),
+    ("A(B(1),C+2)", "A(B(1),[C+2])"),
+    ("K(1,2,3,4,5,6,7)", "K(1,2,3,4,5,6,7)"),
+    ("K(1,2,3,4,5,6,7,8)", "-"),
+    ("K()", "-"),
+    ("K(*:2)", "-"),
+    ("K(1:2:3)", "-"),
+    ("K(**)", "-"),
+    ("K(1", "-"),
+    ("K)", "-"),
+    ("K(1)(2)", "-"),
+    ("A,,B", "-"),
+    (",A", "-"),
+    ("A,", "-"),
+    ("", "-"),
+    ("A/B", "-"),
+    ("3A", "-"),
+    (
+        "ABCDEFGHIJKLMNOPQRSTUVWXYZABCDE",
+        "ABCDEFGHIJKLMNOPQRSTUVWXYZABCDE",
+    ),
+    ("ABCDEFGHIJKLMNOPQRSTUVWXYZABCDEF", "-"),
+];
 
 #[test]
 fn reads_declarators(rt: HostRuntime) -> Result<(), Fail> {
     let alloc = rt.alloc();
-    let cases = [
-        ("A", "A"),
-        ("A,B(3),C", "A B(3) C"),
-        ("K(2,*,2)", "K(2,*,2)"),
-        ("K(-1:1,*)", "K([-1]:1,*)"),
-        ("K(N:*,L:M)", "K(N:*,L:M)"),
-        ("A(B(1),C+2)", "A(B(1),[C+2])"),
-        ("K(1,2,3,4,5,6,7)", "K(1,2,3,4,5,6,7)"),
-        ("K(1,2,3,4,5,6,7,8)", "-"),
-        ("K()", "-"),
-        ("K(*:2)", "-"),
-        ("K(1:2:3)", "-"),
-        ("K(**)", "-"),
-        ("K(1", "-"),
-        ("K)", "-"),
-        ("K(1)(2)", "-"),
-        ("A,,B", "-"),
-        (",A", "-"),
-        ("A,", "-"),
-        ("", "-"),
-        ("A/B", "-"),
-        ("3A", "-"),
-        (
-            "ABCDEFGHIJKLMNOPQRSTUVWXYZABCDE",
-            "ABCDEFGHIJKLMNOPQRSTUVWXYZABCDE",
-        ),
-        ("ABCDEFGHIJKLMNOPQRSTUVWXYZABCDEF", "-"),
-    ];
-    for (text, wanted) in cases {
-        let found = told_declarators(alloc, text)?;
+    for (text, wanted) in &DECLARATORS {
+        let found = told(alloc, "INTEGER", *text)?;
         assert_eq!(rt; found.as_slice(), wanted.as_bytes(), "at {text}");
     }
     Ok(())
 }
+
+static ARRAYS: [(&str, &str); 4] = [
+    ("A(3),B(2:4)", "A(3) B(2:4)"),
+    ("A(3),B", "-"),
+    ("A", "-"),
+    ("", "-"),
+];
 
 #[test]
 fn reads_arrays(rt: HostRuntime) -> Result<(), Fail> {
     let alloc = rt.alloc();
-    let cases = [
-        ("A(3),B(2:4)", "A(3) B(2:4)"),
-        ("A(3),B", "-"),
-        ("A", "-"),
-        ("", "-"),
-    ];
-    for (text, wanted) in cases {
-        let found = told_arrays(alloc, text)?;
+    for (text, wanted) in &ARRAYS {
+        let found = told(alloc, "DIMENSION", *text)?;
         assert_eq!(rt; found.as_slice(), wanted.as_bytes(), "at {text}");
     }
     Ok(())
 }
+
+static BLOCKS: [(&str, &str); 18] = [
+    ("X", "// X"),
+    ("/A/X", "/A/ X"),
+    ("//X", "// X"),
+    ("/A/X,/B/Y", "/A/ X /B/ Y"),
+    ("/A/X/B/Y", "/A/ X /B/ Y"),
+    ("X,Y//Z", "// X Y // Z"),
+    ("X(3,2),/A/Y(2),Z", "// X(3,2) /A/ Y(2) Z"),
+    ("/A/X,/A/Y", "/A/ X /A/ Y"),
+    ("/A/", "-"),
+    ("//", "-"),
+    ("", "-"),
+    ("/A/X,", "-"),
+    ("/A/X,,/B/Y", "-"),
+    (",/A/X", "-"),
+    ("/A/,X", "-"),
+    ("/A,B/X", "-"),
+    ("/1/X", "-"),
+    ("/A/X/B/", "-"),
+];
 
 #[test]
 fn reads_blocks(rt: HostRuntime) -> Result<(), Fail> {
     let alloc = rt.alloc();
-    let cases = [
-        ("X", "// X"),
-        ("/A/X", "/A/ X"),
-        ("//X", "// X"),
-        ("/A/X,/B/Y", "/A/ X /B/ Y"),
-        ("/A/X/B/Y", "/A/ X /B/ Y"),
-        ("X,Y//Z", "// X Y // Z"),
-        ("X(3,2),/A/Y(2),Z", "// X(3,2) /A/ Y(2) Z"),
-        ("/A/X,/A/Y", "/A/ X /A/ Y"),
-        ("/A/", "-"),
-        ("//", "-"),
-        ("", "-"),
-        ("/A/X,", "-"),
-        ("/A/X,,/B/Y", "-"),
-        (",/A/X", "-"),
-        ("/A/,X", "-"),
-        ("/A,B/X", "-"),
-        ("/1/X", "-"),
-        ("/A/X/B/", "-"),
-    ];
-    for (text, wanted) in cases {
-        let found = told_common(alloc, text)?;
+    for (text, wanted) in &BLOCKS {
+        let found = told(alloc, "COMMON", *text)?;
         assert_eq!(rt; found.as_slice(), wanted.as_bytes(), "at {text}");
     }
     Ok(())
 }
+
+static CONSTANTS: [(&str, &str); 13] = [
+    ("(N=3)", "N=3"),
+    ("(N=3,M=N+1)", "N=3 M=[N+1]"),
+    ("(N)", "-"),
+    ("N", "-"),
+    ("N=3,M=4", "-"),
+    ("N=3", "assignment"),
+    ("()", "-"),
+    ("(N=3", "-"),
+    ("(N=3)X", "-"),
+    ("(N=)", "-"),
+    ("(N=3,)", "-"),
+    ("(A(1)=2)", "-"),
+    ("(N==3)", "-"),
+];
 
 #[test]
 fn reads_constants(rt: HostRuntime) -> Result<(), Fail> {
     let alloc = rt.alloc();
-    let cases = [
-        ("(N=3)", "N=3"),
-        ("(N=3,M=N+1)", "N=3 M=[N+1]"),
-        ("(N)", "-"),
-        ("N=3", "-"),
-        ("()", "-"),
-        ("(N=3", "-"),
-        ("(N=3)X", "-"),
-        ("(N=)", "-"),
-        ("(N=3,)", "-"),
-        ("(A(1)=2)", "-"),
-        ("(N==3)", "-"),
-    ];
-    for (text, wanted) in cases {
-        let found = told_parameter(alloc, text)?;
+    for (text, wanted) in &CONSTANTS {
+        let found = told(alloc, "PARAMETER", *text)?;
         assert_eq!(rt; found.as_slice(), wanted.as_bytes(), "at {text}");
     }
     Ok(())
 }
+
+static NAMES: [(&str, &str); 6] = [
+    ("F", "F"),
+    ("F,G", "F G"),
+    ("F,,G", "-"),
+    ("F(1)", "-"),
+    ("F,", "-"),
+    ("", "-"),
+];
 
 #[test]
 fn reads_names(rt: HostRuntime) -> Result<(), Fail> {
     let alloc = rt.alloc();
-    let cases = [
-        ("F", "F"),
-        ("F,G", "F G"),
-        ("F,,G", "-"),
-        ("F(1)", "-"),
-        ("F,", "-"),
-        ("", "-"),
-    ];
-    for (text, wanted) in cases {
-        let found = told_names(alloc, text)?;
+    for (text, wanted) in &NAMES {
+        let found = told(alloc, "EXTERNAL", *text)?;
         assert_eq!(rt; found.as_slice(), wanted.as_bytes(), "at {text}");
     }
     Ok(())
 }
+
+static SAVED: [(&str, &str); 9] = [
+    ("", "|"),
+    ("N", "N|"),
+    ("/B/,N", "N|B"),
+    ("N,/B/,M,/C/", "N M|B C"),
+    ("//", "-"),
+    ("/B/N", "-"),
+    ("N,", "-"),
+    ("N(1)", "-"),
+    (",N", "-"),
+];
 
 #[test]
 fn reads_saved(rt: HostRuntime) -> Result<(), Fail> {
     let alloc = rt.alloc();
-    let cases = [
-        ("", "|"),
-        ("N", "N|"),
-        ("/B/,N", "N|B"),
-        ("N,/B/,M,/C/", "N M|B C"),
-        ("//", "-"),
-        ("/B/N", "-"),
-        ("N,", "-"),
-        ("N(1)", "-"),
-        (",N", "-"),
-    ];
-    for (text, wanted) in cases {
-        let found = told_save(alloc, text)?;
+    for (text, wanted) in &SAVED {
+        let found = told(alloc, "SAVE", *text)?;
         assert_eq!(rt; found.as_slice(), wanted.as_bytes(), "at {text}");
     }
     Ok(())
 }
+
+static RULES: [(&str, &str); 16] = [
+    ("LOGICAL(N-M)", "LOGICAL N-M"),
+    ("INTEGER(A-C,X),REAL(Y)", "INTEGER A-C X-X REAL Y-Y"),
+    ("DOUBLEPRECISION(D)", "DOUBLEPRECISION D-D"),
+    ("COMPLEX(A)", "-"),
+    ("LOGICAL", "-"),
+    ("LOGICAL()", "-"),
+    ("LOGICAL(AB)", "-"),
+    ("LOGICAL(A-)", "-"),
+    ("LOGICAL(A-B-C)", "-"),
+    ("LOGICAL(A,)", "-"),
+    ("LOGICAL(A),", "-"),
+    ("LOGICAL(1)", "-"),
+    ("NON", "-"),
+    ("NONE", "none"),
+    ("NONE(A)", "-"),
+    ("", "-"),
+];
 
 #[test]
 fn reads_rules(rt: HostRuntime) -> Result<(), Fail> {
     let alloc = rt.alloc();
-    let cases = [
-        ("LOGICAL(N-M)", "LOGICAL N-M"),
-        ("INTEGER(A-C,X),REAL(Y)", "INTEGER A-C X-X REAL Y-Y"),
-        ("DOUBLEPRECISION(D)", "DOUBLEPRECISION D-D"),
-        ("COMPLEX(A)", "-"),
-        ("LOGICAL", "-"),
-        ("LOGICAL()", "-"),
-        ("LOGICAL(AB)", "-"),
-        ("LOGICAL(A-)", "-"),
-        ("LOGICAL(A-B-C)", "-"),
-        ("LOGICAL(A,)", "-"),
-        ("LOGICAL(A),", "-"),
-        ("LOGICAL(1)", "-"),
-        ("NONE", "-"),
-        ("", "-"),
-    ];
-    for (text, wanted) in cases {
-        let found = told_implicit(alloc, text)?;
+    for (text, wanted) in &RULES {
+        let found = told(alloc, "IMPLICIT", *text)?;
         assert_eq!(rt; found.as_slice(), wanted.as_bytes(), "at {text}");
     }
     Ok(())
 }
 
+static DATA: [(&str, &str); 29] = [
+    ("I,J/2*-1/", "I,J / 2*-1;"),
+    ("A(1),A(2)/1,2/K/3/", "A(1),A(2) / 1 2; K / 3;"),
+    ("A(1),A(2)/1,2/,K/3/", "A(1),A(2) / 1 2; K / 3;"),
+    ("A(I,J+1)/+5/", "A(I,[J+1]) / 5;"),
+    ("L/.TRUE.,2*.FALSE./", "L / T 2*F;"),
+    ("I/N,N*M/", "I / N N*M;"),
+    ("I/9223372036854775807/", "I / 9223372036854775807;"),
+    ("I/-9223372036854775807/", "I / -9223372036854775807;"),
+    ("I/0/", "I / 0;"),
+    ("I/0*5/", "-"),
+    ("I/00*1/", "-"),
+    ("I//", "-"),
+    ("/1/", "-"),
+    ("I/1", "-"),
+    ("I", "-"),
+    ("A()/1/", "-"),
+    ("I/-N/", "-"),
+    ("I/-2*3/", "-"),
+    ("I/1+2/", "-"),
+    ("I/(1)/", "-"),
+    ("I/2*3*4/", "-"),
+    ("I/.TRUE.*2/", "-"),
+    ("I,/1/", "-"),
+    ("I/1,/", "-"),
+    ("I/1,,2/", "-"),
+    ("I/1/,", "-"),
+    ("I/1/,,J/2/", "-"),
+    ("I+J/1/", "-"),
+    ("", "-"),
+];
+
 #[test]
 fn reads_data(rt: HostRuntime) -> Result<(), Fail> {
     let alloc = rt.alloc();
-    let cases = [
-        ("I,J/2*-1/", "I,J / 2*-1;"),
-        ("A(1),A(2)/1,2/K/3/", "A(1),A(2) / 1 2; K / 3;"),
-        ("A(1),A(2)/1,2/,K/3/", "A(1),A(2) / 1 2; K / 3;"),
-        ("A(I,J+1)/+5/", "A(I,[J+1]) / 5;"),
-        ("L/.TRUE.,2*.FALSE./", "L / T 2*F;"),
-        ("I/N,N*M/", "I / N N*M;"),
-        ("I/9223372036854775807/", "I / 9223372036854775807;"),
-        ("I/-9223372036854775807/", "I / -9223372036854775807;"),
-        ("I/0/", "I / 0;"),
-        ("I/0*5/", "-"),
-        ("I/00*1/", "-"),
-        ("I//", "-"),
-        ("/1/", "-"),
-        ("I/1", "-"),
-        ("I", "-"),
-        ("A()/1/", "-"),
-        ("I/-N/", "-"),
-        ("I/-2*3/", "-"),
-        ("I/1+2/", "-"),
-        ("I/(1)/", "-"),
-        ("I/2*3*4/", "-"),
-        ("I/.TRUE.*2/", "-"),
-        ("I,/1/", "-"),
-        ("I/1,/", "-"),
-        ("I/1,,2/", "-"),
-        ("I/1/,", "-"),
-        ("I/1/,,J/2/", "-"),
-        ("I+J/1/", "-"),
-        ("", "-"),
-    ];
-    for (text, wanted) in cases {
-        let found = told_data(alloc, text)?;
+    for (text, wanted) in &DATA {
+        let found = told(alloc, "DATA", *text)?;
         assert_eq!(rt; found.as_slice(), wanted.as_bytes(), "at {text}");
     }
     Ok(())
