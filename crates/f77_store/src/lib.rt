@@ -29,6 +29,3 @@ pub use roles::{Facts, Known, Role, facts_of, known_name, names_of, role_of};
 pub use sizes::elements;
 pub use storage::{Area, Layout, Slot};
 pub use tables::{Names, Table};
-
-#[cfg(test)]
-mod tests;

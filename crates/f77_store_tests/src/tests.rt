@@ -1,5 +1,5 @@
 //! Layouts of units against those that the rules give.
-use super::{Area, Known, Role, Slot, Table, evaluate, layout};
+use f77_store::{Area, Known, Role, Slot, Table, evaluate, layout};
 use f77_tree::{
     Box, DataConst, Declarator, Expr, Form, List, Name, Op, Stmt, Ty, TypeWord, Unit, UnitKind,
     Value,
