@@ -11,6 +11,3 @@ mod texts;
 mod untyped;
 
 pub use faults::name_fault;
-
-#[cfg(test)]
-mod tests;

@@ -1,6 +1,9 @@
 //! The first fault of units, with near misses.
-use super::name_fault;
-use f77_store::{declarations_of, facts_of, occurrences_of};
+ghost use Rattle.std.specs.Prelude.{◌≡◌, IfOk};
+ghost use Rattle.f77_store.specs.Roles as r;
+
+use f77_names::name_fault;
+use f77_store::{Facts, declarations_of, facts_of, occurrences_of};
 use f77_tree::{
     Declarator, Expr, Form, List, Name, Stmt, Ty, TypeWord, Unit, UnitKind, blank_name,
 };
@@ -184,11 +187,17 @@ fn subroutine(alloc: Global, dummies: &str, text: &str) -> Result<Unit, AllocErr
     })
 }
 
-/// The line, number and limit of the first fault.
-fn first(alloc: Global, unit: &Unit) -> Result<(u32, u8, u64), AllocError> {
+fn facts(alloc: Global, unit: &Unit) -> Result<Facts, AllocError>
+    ensures { IfOk result (λ f. f ≡ r.facts unit.now) }
+{
     let all = occurrences_of(alloc, unit)?;
     let declarations = declarations_of(alloc, &unit.statements)?;
-    let facts = facts_of(alloc, unit, &all, &declarations)?;
+    facts_of(alloc, unit, &all, &declarations)
+}
+
+/// The line, number and limit of the first fault.
+fn first(alloc: Global, unit: &Unit) -> Result<(u32, u8, u64), AllocError> {
+    let facts = facts(alloc, unit)?;
     match name_fault(alloc, unit, &facts)? {
         Some(mark) => Ok((mark.line, mark.number, mark.limit)),
         None => Ok((0, 0, 0)),
