@@ -11,6 +11,3 @@ mod nests;
 mod parts;
 
 pub use faults::jump_fault;
-
-#[cfg(test)]
-mod tests;

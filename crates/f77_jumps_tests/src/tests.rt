@@ -1,4 +1,4 @@
-use super::jump_fault;
+use f77_jumps::jump_fault;
 use f77_tree::{Box, Expr, Form, List, Name, Stmt, name_of};
 use std::alloc::{AllocError, Global};
 use std::test::Fail;
