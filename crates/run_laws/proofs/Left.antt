@@ -40,7 +40,7 @@ of_more : {P : Type 0} (a b k : ℕ) → b ≡ 0 → P ⊎ (a < b + k) → P ⊎
 of_more a b k e (inl p) = inl p
 of_more a b k e (inr q) = inr (omega arith)
 
-pub falls_then : {A B : Type 0} → (n : ℕ) (o : Outcome A) (f : A → World → Outcome B) → left_of o ≤ n → ((x : A) (v : World) → left_of (f x v) ≤ v.left) → left_of (then_do o f) ≤ n
+falls_then : {A B : Type 0} → (n : ℕ) (o : Outcome A) (f : A → World → Outcome B) → left_of o ≤ n → ((x : A) (v : World) → left_of (f x v) ≤ v.left) → left_of (then_do o f) ≤ n
 falls_then n (Fine x v) f b g = down (left_of (f x v)) v.left n (g x v) b
 falls_then n (Stop r v) f b g = b
 
@@ -53,7 +53,7 @@ spent_then k (Stop (Undefined c) v) f p g = p
 spent_then k (Stop Stuck v) f p g = p
 
 -- What follows need be known only where no more steps are left than came in.
-pub tells_then : {A B : Type 0} → (k n : ℕ) (o o' : Outcome A) (f g : A → World → Outcome B) → Tells k o o' → left_of o ≤ n
+tells_then : {A B : Type 0} → (k n : ℕ) (o o' : Outcome A) (f g : A → World → Outcome B) → Tells k o o' → left_of o ≤ n
     → ((x : A) (v : World) → v.left ≤ n → Tells k (f x v) (g x (with_more k v))) → ((x : A) (v : World) → left_of (g x v) ≤ v.left) → Tells k (then_do o f) (then_do o' g)
 tells_then k n (Fine x v) o' f g t b s h = subst (λ o. Tells k (f x v) (then_do o g)) (sym t) (s x v b)
 tells_then k n (Stop Spent v) o' f g t b s h = spent_then k o' g t h
@@ -62,7 +62,7 @@ tells_then k n (Stop (Undefined c) v) o' f g t b s h = ap (λ o. then_do o g) t
 tells_then k n (Stop Stuck v) o' f g t b s h = ap (λ o. then_do o g) t
 
 module _ (h : Handler) (hf : (s : ℕ) (ds : List Interval) (w : World) → left_of (h s ds w) ≤ w.left) where
-  pub play_falls : {A : Type 0} → (a : Act A) (w : World) → left_of (play h a w) ≤ w.left
+  play_falls : {A : Type 0} → (a : Act A) (w : World) → left_of (play h a w) ≤ w.left
   play_falls (Done x) w = level w.left
   play_falls {A = A} (Get l g) w = at_cell (w.cells l) (λ v. play_falls (g v) w)
     where
@@ -87,7 +87,7 @@ module _ (h : Handler) (hf : (s : ℕ) (ds : List Interval) (w : World) → left
   begun_falls : {S : Type 0} → (t : S → Act (After S)) (n : ℕ) → ((s : S) (w : World) → left_of (turns h t n s w) ≤ w.left) → (s : S) (w : World) → left_of (then_do (play h (t s) w) (λ a v. follow a v (turns h t n))) ≤ w.left
   begun_falls t n ih s w = falls_then w.left (play h (t s) w) (λ a v. follow a v (turns h t n)) (play_falls (t s) w) (after_falls t n ih)
 
-  pub turns_fall : {S : Type 0} → (t : S → Act (After S)) (n : ℕ) (s : S) (w : World) → left_of (turns h t n s w) ≤ w.left
+  turns_fall : {S : Type 0} → (t : S → Act (After S)) (n : ℕ) (s : S) (w : World) → left_of (turns h t n s w) ≤ w.left
   turns_fall t zero s w = level w.left
   turns_fall {S = S} t (suc n) s w = at_tick w.left refl (turns_fall t n)
     where
@@ -107,7 +107,7 @@ module _ (h : Handler) (hf : (s : ℕ) (ds : List Interval) (w : World) → left
       at_tick (suc m) e = inr (below (left_of (go (record w { left = m }))) m w.left (begun_falls t n (turns_fall t n) s (record w { left = m })) (omega arith))
 
   module _ (k : ℕ) (ht : (s : ℕ) (ds : List Interval) (w : World) → Tells k (h s ds w) (h s ds (with_more k w))) where
-    pub play_tells : {A : Type 0} → (a : Act A) (w : World) → Tells k (play h a w) (play h a (with_more k w))
+    play_tells : {A : Type 0} → (a : Act A) (w : World) → Tells k (play h a w) (play h a (with_more k w))
     play_tells (Done x) w = refl
     play_tells {A = A} (Get l g) w = at_cell (w.cells l) (λ v. play_tells (g v) w)
       where
@@ -128,7 +128,7 @@ module _ (h : Handler) (hf : (s : ℕ) (ds : List Interval) (w : World) → left
     play_tells (Fail Stuck) w = refl
 
     -- With more turns than steps, the steps run out first.
-    pub turns_tell : {S : Type 0} → (t : S → Act (After S)) (n m : ℕ) → n ≤ m → (s : S) (w : World) → w.left < n → Tells k (turns h t n s w) (turns h t m s (with_more k w))
+    turns_tell : {S : Type 0} → (t : S → Act (After S)) (n m : ℕ) → n ≤ m → (s : S) (w : World) → w.left < n → Tells k (turns h t n s w) (turns h t m s (with_more k w))
     turns_tell t zero m le s w lt = absurd (omega arith)
     turns_tell t (suc n) zero le s w lt = absurd (omega arith)
     turns_tell {S = S} t (suc n) (suc m) le s w lt = at_tick w.left refl (turns_tell t n m (omega arith))

@@ -115,14 +115,14 @@ module _ (outcome : ℕ → Outcome Answer) (falls : (n : ℕ) → left_of (outc
       from = λ m le. same_from m le ∙ sym (same_from n (omega arith));
     }
 
-  pub stops : (n : ℕ) → IsGoing (runs n) ⊎ ((step : ℕ) × (step ≤ n) × IsFrom runs step (runs n))
+  stops : (n : ℕ) → IsGoing (runs n) ⊎ ((step : ℕ) × (step ≤ n) × IsFrom runs step (runs n))
   stops n = go (spent_or_not (outcome n))
     where
       go : IsSpent (outcome n) ⊎ (IsSpent (outcome n) → ⊥) → IsGoing (runs n) ⊎ ((step : ℕ) × (step ≤ n) × IsFrom runs step (runs n))
       go (inl p) = inl (spent_goes n (outcome n) p)
       go (inr not_spent) = inr (n - left_of (outcome n), omega arith, is_from n not_spent)
 
-  pub undefined : (n s c : ℕ) (out : List ℕ) → runs n ≡ UndefinedAt s c out → (s ≤ n) × IsFrom runs s (UndefinedAt s c out)
+  undefined : (n s c : ℕ) (out : List ℕ) → runs n ≡ UndefinedAt s c out → (s ≤ n) × IsFrom runs s (UndefinedAt s c out)
   undefined n s c out e =
       let u = undefined_step n (outcome n) s c out e in
       let z : s ≡ n - left_of (outcome n) = u.1 in

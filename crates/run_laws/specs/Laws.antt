@@ -1,6 +1,9 @@
--- How the run of a program depends on its steps.
-use Rattle.std.specs.Prelude.{◌≡◌, ℕ, ◌<◌, ◌≤◌, List, [], Some, ◌⊎◌, ℤ, slice_get}
+-- How the run of a program depends on its steps and on its input.
+use Rattle.std.specs.Prelude.{◌≡◌, ℕ, ◌<◌, ◌≤◌, List, [], Some, Bool, true, false, ◌⊎◌, ℤ, slice_get}
+use Rattle.std.specs.List.{list_any}
 use Rattle.run_model.specs.Runs.{Run, Going, Finished, UndefinedAt}
+use Rattle.f77_tree.specs.declared.form.Form.{Form, out-Form}
+use Rattle.f77_tree.specs.declared.form.Form.TheOpen.{Form-F}
 use Rattle.f77_tree.specs.declared.unit.Unit.{Unit as SourceUnit}
 use Rattle.f77_store.specs.Names.{Name}
 use Rattle.f77_running.specs.Source.{main_of, Source}
@@ -37,3 +40,21 @@ HasNoDummies units name = (k : ℕ) (u : SourceUnit) → slice_get units k ≡ S
 -- whose bounds could be undefined at the entry.
 abbrev pub BeginsBeforeItsFirstStep : Type 0
 BeginsBeforeItsFirstStep = (units : List SourceUnit) (main : SourceUnit) → main_of units ≡ Some main → HasNoDummies units main.name → (input : List ℤ) → Source units input 0 ≡ Going []
+
+-- ---- the input
+
+abbrev pub is_read : Form-F Form → Bool
+is_read (Form-F.Read es) = true
+is_read _ = false
+
+-- a READ, or a logical IF with one. A logical IF in another is no statement.
+abbrev pub has_read : Form-F Form → Bool
+has_read (Form-F.LogicalIf e i) = is_read (out-Form i)
+has_read form = is_read form
+
+abbrev pub unit_reads : SourceUnit → Bool
+unit_reads u = list_any (λ s. has_read (out-Form s.form)) u.statements
+
+-- Without READ the input makes no difference.
+abbrev pub InputIsWhatIsRead : Type 0
+InputIsWhatIsRead = (units : List SourceUnit) → list_any unit_reads units ≡ false → (a b : List ℤ) (n : ℕ) → Source units a n ≡ Source units b n
