@@ -1,5 +1,5 @@
 -- The step at which a run stops: what was left of its steps tells it.
-use Rattle.std.proofs.Common.{◌≡◌, ℕ, suc, ◌+◌, ◌-◌, ◌<◌, ◌≤◌, List, [], ◌∷◌, length, Option, Some, None, Bool, true, false, cond, ℤ, ◌⊎◌, inl, inr, refl, sym, ap, ◌∙◌, subst, arith, map, slice_get}
+use Rattle.std.proofs.Common.{◌≡◌, ℕ, zero, suc, ◌+◌, ◌-◌, ◌<◌, ◌≤◌, List, [], ◌∷◌, length, Option, Some, None, Bool, true, false, cond, ℤ, ◌⊎◌, inl, inr, refl, sym, ap, ◌∙◌, subst, arith, map, slice_get}
 use Rattle.std.specs.Cmp.Lexicographic.{same_text}
 use Rattle.run_model.specs.Acts.{World, Spent, Ended, Undefined, Stuck, Outcome, Fine, Stop, then_do, Answer, Handler, play}
 use Rattle.run_model.specs.Turns.{run_from}
@@ -201,3 +201,7 @@ begins (u ∷ us) main is none input =
     let program = named routines (routine main) in
     ap (λ m. with_main routines m input 0) is
     ∙ unit_waits (at_sites (program main.name) (meaning program (length (map routine us)))) (program main.name) (fresh_world routines input 0) (named_takes_none (u ∷ us) (routine main) main.name (no_arrays main (none s.place main s.is refl)) none)
+
+pub stops_in_a_step : (units : List SourceUnit) (main : SourceUnit) → main_of units ≡ Some main → HasNoDummies units main.name → (input : List ℤ) (step : ℕ) (r : Run) → IsFrom (Source units input) step r → IsGoing r ⊎ (0 < step)
+stops_in_a_step units main is none input zero r from = inl (subst IsGoing (sym (begins units main is none input) ∙ from.from 0 (omega arith)) tt)
+stops_in_a_step units main is none input (suc step) r from = inr (omega arith)

@@ -36,10 +36,13 @@ UndefinedAtItsStep = (units : List SourceUnit) (input : List ℤ) (n step cause 
 abbrev pub HasNoDummies : List SourceUnit → Name → Type 0
 HasNoDummies units name = (k : ℕ) (u : SourceUnit) → slice_get units k ≡ Some u → u.name ≡ name → u.dummies ≡ []
 
--- Before its first step a program has done nothing, so no run ends or is undefined at step 0. A main program has no dummy arguments,
--- whose bounds could be undefined at the entry.
+-- Before its first step a program has done nothing. A main program has no dummy arguments, whose bounds could be undefined at the entry.
 abbrev pub BeginsBeforeItsFirstStep : Type 0
 BeginsBeforeItsFirstStep = (units : List SourceUnit) (main : SourceUnit) → main_of units ≡ Some main → HasNoDummies units main.name → (input : List ℤ) → Source units input 0 ≡ Going []
+
+-- So no run stops at step 0.
+abbrev pub StopsInAStep : Type 0
+StopsInAStep = (units : List SourceUnit) (main : SourceUnit) → main_of units ≡ Some main → HasNoDummies units main.name → (input : List ℤ) (step : ℕ) (r : Run) → IsFrom (Source units input) step r → IsGoing r ⊎ (0 < step)
 
 -- ---- the input
 
