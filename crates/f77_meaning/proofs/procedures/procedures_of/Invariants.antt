@@ -1,0 +1,8 @@
+use Rattle.std.proofs.Common.{map, take}
+use Rattle.f77_running.specs.Source.{routine}
+use Rattle.f77_calls.specs.Procedures.{AreUnits}
+use Rattle.f77_meaning.specs.Places.{find_of}
+use Rattle.f77_meaning.proofs.procedures.procedures_of.Given as goal
+
+abbrev pub invariant-loop-unit : goal.invariant-loop-unit
+invariant-loop-unit l = AreUnits (find_of l.units l.main) l.all.items (map routine (take l.unit-index l.units))

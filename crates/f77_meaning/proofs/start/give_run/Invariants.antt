@@ -1,0 +1,10 @@
+use Rattle.std.proofs.Common.{◌≡◌}
+use Rattle.f77_cells.specs.Cells.{cells_of}
+use Rattle.f77_code.specs.Denoted.{base_of}
+use Rattle.f77_routine.specs.Runs.{given_from, units_of}
+use Rattle.f77_meaning.specs.Given.{given_over}
+use Rattle.f77_meaning.proofs.start.give_run.Given as goal
+
+-- the units still to come give over these cells what all give over the first
+abbrev pub invariant-loop-k : goal.invariant-loop-k
+invariant-loop-k l = given_over l.name (given_from (base_of l.run.base) l.run.skip l.k l.run.value) (cells_of l.cells) ≡ given_over l.name (units_of l.run) (cells_of l.initial.cells)

@@ -1,0 +1,16 @@
+use Rattle.std.proofs.Common.{List, ap, ◌∙◌, flat_map, arith}
+use Rattle.f77_cells.specs.Cells.{cells_of}
+use Rattle.f77_routine.specs.declared.runs.Run.{Run}
+use Rattle.f77_routine.specs.Runs.{units_of}
+use Rattle.f77_meaning.specs.Given.{given_over}
+use Rattle.f77_meaning.proofs.Giving.{one_run, no_run_left}
+use Rattle.f77_meaning.proofs.start.give_runs.Goals as goal
+
+pub loop-k-preserved : goal.loop-k-preserved
+loop-k-preserved c =
+    one_run c.args.name.now c.as_slice-all.result.now c.loop-k.k c.index-all-k.result (cells_of c.loop-k.cells) (cells_of c.give_run.new.cells) _ (omega arith) (omega arith) c.index-all-k.is (c.in_ok-give_run.ensures {u = tt}) c.loop-k.invariant
+
+pub returns : goal.returns
+returns c =
+    no_run_left c.args.name.now c.as_slice-all.result.now c.loop-k.k (cells_of c.loop-k.cells) _ (omega arith) c.loop-k.invariant
+    ∙ ap (λ (rs : List Run). given_over c.args.name.now (flat_map units_of rs) (cells_of c.args.cells.now)) c.as_slice-all.ensures

@@ -1,0 +1,5 @@
+pub mod Answers
+pub mod Ends
+pub mod Places
+pub mod Marks
+pub mod Given

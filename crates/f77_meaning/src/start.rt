@@ -1,0 +1,99 @@
+//! The world in which a program starts.
+ghost use Rattle.std.specs.Prelude.{◌≡◌, ◌+◌, [], ◌∷◌, None, flat_map, IfOk, OnOk};
+ghost use Rattle.f77_running.specs.Data.{beyond};
+ghost use Rattle.f77_running.specs.Expressions.{scalar};
+ghost use Rattle.f77_cells.specs.Cells.{cells_of};
+ghost use Rattle.f77_cells.specs.Spots.{loc_of};
+ghost use Rattle.f77_code.specs.Denoted.{base_of};
+ghost use Rattle.f77_routine.specs.Runs.{units_of};
+ghost use Rattle.f77_meaning.specs.Given as g;
+
+use f77_calls::Procedure;
+use f77_cells::{Area, Spot, Storage};
+use f77_code::Base;
+use f77_routine::Run;
+use f77_tree::{List, Name};
+use std::alloc::{AllocError, Global};
+
+fn offset(from: u32, far: u64) -> Result<usize, AllocError>
+    ensures { IfOk result (λ n. n ≡ from + far) }
+{
+    (from as usize).checked_add(far as usize).ok_or(AllocError)
+}
+
+// The storage unit so many behind the beginning of a name, in a unit that isn't called.
+fn spot_behind<'a>(name: &'a Name, base: &'a Base, far: u64) -> Result<Spot<'a>, AllocError>
+    ensures { IfOk result (λ s. loc_of s ≡ scalar (g.idle name.now) (beyond (base_of base.now) far)) }
+{
+    match base {
+        Base::Dummy(_) => Ok(Spot {
+            area: Area::Fresh(name, 0, 0),
+            offset: 0,
+        }),
+        Base::Own(from) => Ok(Spot {
+            area: Area::Local(name),
+            offset: offset(*from, far)?,
+        }),
+        Base::Common(block, from) => Ok(Spot {
+            area: Area::Block(block),
+            offset: offset(*from, far)?,
+        }),
+    }
+}
+
+fn behind(skip: u64, far: u64) -> Result<u64, AllocError>
+    ensures { IfOk result (λ n. n ≡ skip + far) }
+{
+    skip.checked_add(far).ok_or(AllocError)
+}
+
+// Gives one storage unit of a run its value.
+fn give_unit(
+    alloc: Global,
+    cells: &mut Storage,
+    name: &Name,
+    run: &Run,
+    k: u64,
+) -> Result<(), AllocError>
+    ensures { OnOk result (cells_of cells.new ≡ g.given_over name.now ((beyond (base_of run.now.base) (run.now.skip + k), run.now.value) ∷ []) (cells_of cells.old)) }
+{
+    let spot = spot_behind(name, &run.base, behind(run.skip, k)?)?;
+    cells.put(alloc, spot, run.value)
+}
+
+// What is given first wins, so the last goes first.
+fn give_run(alloc: Global, cells: &mut Storage, name: &Name, run: &Run) -> Result<(), AllocError>
+    ensures { OnOk result (cells_of cells.new ≡ g.given_over name.now (units_of run.now) (cells_of cells.old)) }
+{
+    for k in (0..run.count).rev() {
+        give_unit(alloc, cells, name, run, k)?;
+    }
+    Ok(())
+}
+
+fn give_runs(
+    alloc: Global,
+    cells: &mut Storage,
+    name: &Name,
+    runs: &List<Run>,
+) -> Result<(), AllocError>
+    ensures { OnOk result (cells_of cells.new ≡ g.given_over name.now (flat_map units_of runs.now) (cells_of cells.old)) }
+{
+    let all = runs.as_slice();
+    for k in (0..all.len()).rev() {
+        give_run(alloc, cells, name, &all[k])?;
+    }
+    Ok(())
+}
+
+/// The cells at the start: what DATA gives, also in units that are never called.
+pub fn given(alloc: Global, procedures: &[Procedure]) -> Result<Storage, AllocError>
+    ensures { IfOk result (λ cells. cells_of cells ≡ g.given_by procedures.now (λ l. None)) }
+{
+    let mut cells = Storage::new(alloc);
+    for k in (0..procedures.len()).rev() {
+        let routine = &procedures[k].routine;
+        give_runs(alloc, &mut cells, &routine.name, &routine.cells.initial)?;
+    }
+    Ok(cells)
+}
