@@ -17,6 +17,3 @@ pub use control::Control;
 pub use flow::{Flow, flow_of};
 pub use kinds::{Kind, kind_of};
 pub use loops::Loop;
-
-#[cfg(test)]
-mod tests;

@@ -1,4 +1,4 @@
-use super::{Control, flow_of};
+use f77_flow::{Control, flow_of};
 use f77_tree::{Box, Expr, Form, List, Name, Stmt, Unit, UnitKind, name_of};
 use std::alloc::{AllocError, Global};
 use std::test::Fail;
