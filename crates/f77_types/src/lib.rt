@@ -23,6 +23,3 @@ pub use subscripts::is_miscounted;
 pub use targets::{is_no_element, is_no_variable, target_type};
 pub use type_faults::type_fault;
 pub use wrong_types::{differs, is_mistyped};
-
-#[cfg(test)]
-mod tests;

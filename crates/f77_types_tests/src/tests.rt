@@ -2,9 +2,9 @@
 ghost use Rattle.std.specs.Prelude.{◌≡◌, IfOk};
 ghost use Rattle.f77_store.specs.Roles as r;
 
-use super::type_fault;
 use f77_store::{Facts, declarations_of, facts_of, occurrences_of};
 use f77_tree::{Box, Declarator, Expr, Form, List, Name, Op, Stmt, Ty, Unit, UnitKind};
+use f77_types::type_fault;
 use fault_marks::Mark;
 use std::alloc::{AllocError, Global};
 use std::test::Fail;
