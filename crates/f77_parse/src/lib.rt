@@ -12,6 +12,3 @@ pub use fixed_form::UnitText;
 pub use laws::{end_law, read_law};
 pub use statement::form_at;
 pub use unit::{ends_by_end, parse_unit};
-
-#[cfg(test)]
-mod tests;

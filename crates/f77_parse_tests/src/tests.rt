@@ -1,4 +1,4 @@
-use super::{ends_by_end, parse_unit};
+use f77_parse::{ends_by_end, parse_unit};
 use f77_tree::{List, Name, Refused};
 use fixed_form::{Line, UnitText, read_units};
 use std::alloc::{AllocError, Global};
