@@ -13,8 +13,3 @@ pub use lines::next_line;
 pub use reader::{Line, UnitText, read_units, same_source};
 pub use unit_names::unit_name;
 pub use words::{behind_word, word_run};
-
-#[cfg(test)]
-mod slowly;
-#[cfg(test)]
-mod tests;

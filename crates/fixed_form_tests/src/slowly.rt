@@ -1,6 +1,6 @@
 //! A plain, slow reading of units, to compare with.
 
-use super::unit_name;
+use fixed_form::unit_name;
 use std::alloc::{AllocError, Global};
 
 /// What was read: the units that were told, the statements of this unit that were told, the text of its first, and the statement in progress.
