@@ -101,13 +101,24 @@ fn least_ends(alloc: Global, ends: &[u32], firsts: &[u32]) -> Result<List<u32>, 
 }
 
 /// Intervals of places, by where they begin.
-#[derive(Drop)]
 pub struct Intervals {
     pub ends: List<u32>,
     firsts: List<u32>,
     begins: List<u32>,
     least: List<u32>,
     ghost right: { i.AreIntervals ends firsts begins least },
+}
+
+// A call of its own, so that who drops it doesn't open its tables.
+impl Drop for Intervals {
+    fn drop(self) {
+        let Intervals {
+            ends,
+            firsts,
+            begins,
+            least,
+        } = self;
+    }
 }
 
 impl Intervals {

@@ -13,7 +13,6 @@ use f77_tree::{List, Stmt};
 use std::alloc::{AllocError, Global};
 
 /// The ELSEs, ranges, arms and spans of some statements.
-#[derive(Drop)]
 pub struct Nests<'a> {
     pub parts: Parts<'a>,
     pub elses: List<u32>,
@@ -146,6 +145,19 @@ fn spans(alloc: Global, control: &Control) -> Result<Intervals, AllocError>
 {
     let ends = spans_of(alloc, control)?;
     Intervals::new(alloc, ends)
+}
+
+// A call of its own, so that who drops it doesn't open its tables.
+impl Drop for Nests<'_> {
+    fn drop(self) {
+        let Nests {
+            parts,
+            elses,
+            ranges,
+            arms,
+            spans,
+        } = self;
+    }
 }
 
 impl<'a> Nests<'a> {

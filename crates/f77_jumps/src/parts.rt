@@ -12,11 +12,17 @@ use f77_tree::{List, Stmt};
 use std::alloc::{AllocError, Global};
 
 /// Where control goes in some statements, and for each END IF the block IF that it ends.
-#[derive(Drop)]
 pub struct Parts<'a> {
     pub control: Control<'a>,
     openers: List<u32>,
     ghost right: { p.AreOpeners control.statements.now openers },
+}
+
+// A call of its own, so that who drops it doesn't open its tables.
+impl Drop for Parts<'_> {
+    fn drop(self) {
+        let Parts { control, openers } = self;
+    }
 }
 
 impl<'a> Parts<'a> {
