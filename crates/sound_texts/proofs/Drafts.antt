@@ -9,7 +9,8 @@ use Rattle.f77_sound.specs.Sites.{Each}
 use Rattle.rn_draft.specs.Accepted.{IsAccepted, Accepted}
 use Rattle.rn_draft.specs.Drafts.{named, drafted}
 use Rattle.sound_texts.specs.Laws.{AreSound, DraftsDiffer, TreesAreTexts}
-use Rattle.sound_texts.proofs.Names.{some_is, each_at, told_each, distinct_all, apart}
+use Rattle.f77_sound.proofs.Tables.{some_is, each_at, told_each}
+use Rattle.sound_texts.proofs.Names.{distinct_all, apart}
 
 abbrev entries : List UnitText → Told UnitText
 entries units = told (map named units)

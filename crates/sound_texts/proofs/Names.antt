@@ -1,32 +1,9 @@
 -- The names that are told of, each once.
-use Rattle.std.proofs.Common.{◌≡◌, ℕ, zero, suc, Bool, true, false, cond, Some, List, [], ◌∷◌, fold, slice_get, refl, sym, ap, ◌∙◌, subst}
-use Rattle.std.specs.Cmp.Lexicographic.{same_text}
+use Rattle.std.proofs.Common.{◌≡◌, ℕ, zero, suc, Bool, true, false, cond, Some, List, [], ◌∷◌, fold, slice_get, refl, sym, ap, ◌∙◌}
 use Rattle.std.proofs.lemmas.Cmp.{nat_list_eq_equiv}
 use Rattle.f77_store.specs.Names.{Name, name_eq, Told, with_told, with_pair}
 use Rattle.f77_sound.specs.Sites.{Each}
-
-pub some_is : {A : Type 0} (x y : A) → Some x ≡ Some y → x ≡ y
-some_is x y e = cc
-
-pub each_at : {A : Type 0} (P : A → Type 0) (xs : List A) (i : ℕ) (x : A) → Each P xs → slice_get xs i ≡ Some x → P x
-each_at P [] i x h e = absurd (cc)
-each_at P (y ∷ xs) zero x h e = subst P (some_is y x e) h.0
-each_at P (y ∷ xs) (suc i) x h e = each_at P xs i x h.1 e
-
--- ---- what holds of all that is told
-
-module _ {A : Type 0} (Q : Name × A → Type 0) where
-  told_one : (es : Told A) (k : Name) (v : A) → Each Q es → Q (k, v) → Each Q (with_told es k v)
-  told_one [] k v h q = (q, tt)
-  told_one (e ∷ es) k v h q = go (name_eq k e.0) refl (told_one es k v h.1 q)
-    where
-      go : (b : Bool) → name_eq k e.0 ≡ b → Each Q (with_told es k v) → Each Q (cond b ((e.0, v) ∷ es) (e ∷ with_told es k v))
-      go true t rest = (subst (λ n. Q (n, v)) (same_text k e.0 (sym t)) q, h.1)
-      go false t rest = (h.0, rest)
-
-  pub told_each : (pairs : List (Name × A)) (es : Told A) → Each Q es → Each Q pairs → Each Q (fold with_pair es pairs)
-  told_each [] es h k = h
-  told_each (p ∷ pairs) es h k = told_each pairs (with_pair es p) (told_one es p.0 p.1 h k.0) k.1
+use Rattle.f77_sound.proofs.Tables.{some_is, each_at}
 
 -- ---- names that are apart
 

@@ -24,10 +24,8 @@ use Rattle.f77_parse.specs.UnitFaults.{order, dummies}
 use Rattle.f77_running.specs.Source.{is_main}
 use Rattle.f77_sound.specs.Accepted.{IsTextOf}
 use Rattle.f77_sound.specs.Texts.{returns_in, return_step}
+use Rattle.f77_sound.proofs.Tables.{some_is}
 use Rattle.sound_texts.proofs.Forms.{textual}
-
-some_is : {A : Type 0} (x y : A) → Some x ≡ Some y → x ≡ y
-some_is x y e = cc
 
 -- ---- RETURN, as the order of statements has it and as the meaning has it
 
