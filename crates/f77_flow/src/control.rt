@@ -12,7 +12,6 @@ use f77_tree::{List, Stmt};
 use std::alloc::{AllocError, Global};
 
 /// Where control goes from each of some statements. They are numbered from 0, and their number stands for none.
-#[derive(Drop)]
 pub struct Control<'a> {
     pub statements: &'a [Stmt],
     targets: Labels,
@@ -20,6 +19,19 @@ pub struct Control<'a> {
     lasts: List<u32>,
     ends: Ends,
     ghost right: { t.IsControl statements.now targets branches lasts ends },
+}
+
+// A call of its own, so that who drops it doesn't open its tables.
+impl Drop for Control<'_> {
+    fn drop(self) {
+        let Control {
+            statements,
+            targets,
+            branches,
+            lasts,
+            ends,
+        } = self;
+    }
 }
 
 impl<'a> Control<'a> {

@@ -12,7 +12,6 @@ use f77_tree::{List, Name};
 use std::alloc::{AllocError, Global};
 
 /// The names by what makes their roles.
-#[derive(Drop)]
 pub struct Attributes {
     /// In the list of the head.
     pub dummies: Names,
@@ -28,6 +27,21 @@ pub struct Attributes {
     pub called: Names,
     /// With a list elsewhere.
     pub listed: Names,
+}
+
+// A call of its own, so that who drops it doesn't open its names.
+impl Drop for Attributes {
+    fn drop(self) {
+        let Attributes {
+            dummies,
+            arrays,
+            constants,
+            external,
+            intrinsic,
+            called,
+            listed,
+        } = self;
+    }
 }
 
 fn is_manner(a: Manner, b: Manner) -> bool

@@ -38,7 +38,6 @@ pub struct Known {
 }
 
 /// What the roles and types of a unit's names follow from.
-#[derive(Drop)]
 pub struct Facts {
     pub attributes: Attributes,
     /// The named constants.
@@ -49,6 +48,19 @@ pub struct Facts {
     pub words: Table<TypeWord>,
     /// The type of each letter, by its code.
     pub letters: List<TypeWord>,
+}
+
+// A call of its own, so that who drops it doesn't open its tables.
+impl Drop for Facts {
+    fn drop(self) {
+        let Facts {
+            attributes,
+            constants,
+            shapes,
+            words,
+            letters,
+        } = self;
+    }
 }
 
 /// What the roles and types of a unit's names follow from, given its occurrences and its declarations.

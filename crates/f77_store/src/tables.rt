@@ -10,9 +10,15 @@ use std::alloc::{AllocError, Global};
 use std::marker::Model;
 
 /// Names, each once, in the order in which they came.
-#[derive(Drop)]
 pub struct Names {
     names: IndexSet<Name>,
+}
+
+// A call of its own, so that who drops names doesn't open their set.
+impl Drop for Names {
+    fn drop(self) {
+        let Names { names } = self;
+    }
 }
 
 impl Model for Names {
@@ -67,9 +73,15 @@ impl Names {
 }
 
 /// What is told of names: contracts see the pairs.
-#[derive(Drop)]
 pub struct Table<V: Drop> {
     entries: IndexMap<Name, V>,
+}
+
+// A call of its own, so that who drops it doesn't open its map.
+impl<V: Drop> Drop for Table<V> {
+    fn drop(self) {
+        let Table { entries } = self;
+    }
 }
 
 impl<V: Drop> Model for Table<V> {
