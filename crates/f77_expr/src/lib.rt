@@ -17,8 +17,3 @@ pub use lexer::{token_count, tokens};
 pub use parser::{expression, leading_expression, whole_expression};
 pub use readings::readings_law;
 pub use token::{Kind, Rule, Token, next, operator};
-
-#[cfg(test)]
-mod lexer_tests;
-#[cfg(test)]
-mod parser_tests;

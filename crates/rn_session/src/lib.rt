@@ -12,12 +12,3 @@ mod words;
 pub use making::thin_file;
 pub use status::Status;
 pub use top::{LIMIT, rn_top};
-
-#[cfg(test)]
-mod against;
-#[cfg(test)]
-mod fault_tests;
-#[cfg(test)]
-mod limit_tests;
-#[cfg(test)]
-mod tests;

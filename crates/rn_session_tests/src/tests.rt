@@ -1,6 +1,6 @@
-use super::*;
 use f77_tree::{List, Refused};
 use rn_ports::{FreeGate, Kind, ListTally, MemKeeper, MemSink, MemSource};
+use rn_session::{rn_top, thin_file};
 use std::alloc::{AllocError, Global};
 use std::test::Fail;
 
@@ -47,91 +47,95 @@ fn call(
 
 const ONE: &str = "      PRINT *, 1\n      END\n";
 
+const SUM: &str = "      I = 2\n      J = I + 40 - 5\n      PRINT *, 'J IS', J\n      END\n";
+
+const BRANCH: &str = "      IF (I .EQ. 0) I = 1\n      END\n";
+
 // The words, the input, the status and the text.
+static REPLIES: [(&str, &str, u8, &str); 16] = [
+    ("one 1000", ONE, 0, " 1\nended 0\n"),
+    ("one 0001000", ONE, 0, " 1\nended 0\n"),
+    ("one 9223372036854775807", ONE, 0, " 1\nended 0\n"),
+    ("one 1000", SUM, 0, " J IS 37\nended 0\n"),
+    ("one 1000", "      PRINT *\n      END\n", 0, " \nended 0\n"),
+    (
+        "one 1000",
+        "      PRINT *, 9223372036854775807, 0\n      END",
+        0,
+        " 9223372036854775807 0\nended 0\n",
+    ),
+    ("one 1000", "      END\n", 0, "ended 0\n"),
+    // A term has no sign.
+    (
+        "one 1000",
+        "      PRINT *, 9223372036854775807, 0, -5\n      END",
+        1,
+        "fault 7 MAIN line 1\n",
+    ),
+    ("one 1000", BRANCH, 1, "fault 7 MAIN line 1\n"),
+    ("one 0", ONE, 13, "steps spent\n"),
+    ("", ONE, 2, "bad words\n"),
+    ("one", ONE, 2, "bad words\n"),
+    ("one 1 2", ONE, 2, "bad words\n"),
+    ("one +2", ONE, 2, "bad words\n"),
+    ("one 9223372036854775808", ONE, 2, "bad words\n"),
+    ("ONE 1", ONE, 2, "bad words\n"),
+];
+
 #[test]
 fn replies(rt: HostRuntime) -> Result<(), Fail> {
-    let sum = "      I = 2\n      J = I + 40 - 5\n      PRINT *, 'J IS', J\n      END\n";
-    let branch = "      IF (I .EQ. 0) I = 1\n      END\n";
-    let table = [
-        ("one 1000", ONE, 0, " 1\nended 0\n"),
-        ("one 0001000", ONE, 0, " 1\nended 0\n"),
-        ("one 9223372036854775807", ONE, 0, " 1\nended 0\n"),
-        ("one 1000", sum, 0, " J IS 37\nended 0\n"),
-        ("one 1000", "      PRINT *\n      END\n", 0, " \nended 0\n"),
-        (
-            "one 1000",
-            "      PRINT *, 9223372036854775807, 0\n      END",
-            0,
-            " 9223372036854775807 0\nended 0\n",
-        ),
-        ("one 1000", "      END\n", 0, "ended 0\n"),
-        // A term has no sign.
-        (
-            "one 1000",
-            "      PRINT *, 9223372036854775807, 0, -5\n      END",
-            1,
-            "fault 7 MAIN line 1\n",
-        ),
-        ("one 1000", branch, 1, "fault 7 MAIN line 1\n"),
-        ("one 0", ONE, 13, "steps spent\n"),
-        ("", ONE, 2, "bad words\n"),
-        ("one", ONE, 2, "bad words\n"),
-        ("one 1 2", ONE, 2, "bad words\n"),
-        ("one +2", ONE, 2, "bad words\n"),
-        ("one 9223372036854775808", ONE, 2, "bad words\n"),
-        ("ONE 1", ONE, 2, "bad words\n"),
-    ];
-    for (line, input, status, text) in table {
+    for (line, input, status, text) in &REPLIES {
         let input = Vec::from_slice(rt.alloc(), input.as_bytes())?;
-        let seen = call(rt, line, input, &[], &[])?;
+        let seen = call(rt, *line, input, &[], &[])?;
         assert_eq!(rt; seen.text.as_slice(), text.as_bytes());
-        assert_eq!(rt; seen.status, status, "at {text}");
+        assert_eq!(rt; seen.status, *status, "at {text}");
     }
     Ok(())
 }
 
 // Texts that are refused: the first fault of the reading, else of a unit, else fault 27, else that of the thin rule.
+static REFUSED: [(&str, &str); 15] = [
+    ("", "fault 27 - line 0\n"),
+    ("C one\n\n", "fault 27 - line 0\n"),
+    ("      I = 1\n", "fault 5 - line 1\n"),
+    (
+        "      I = 1\n      J =\t1\n      END\n",
+        "fault 1 - line 2\n",
+    ),
+    (
+        "      I =\n      GO TO 7\n      END\n",
+        "fault 6 MAIN line 1\n",
+    ),
+    (
+        "      I = 1\n      GO TO 7\n      END\n",
+        "fault 14 MAIN line 2\n",
+    ),
+    (
+        "      I = 1\n      IF (I .EQ. 0) I = 1\n      END\n",
+        "fault 7 MAIN line 2\n",
+    ),
+    (
+        "      I = 1\n      END\n      PROGRAM Q\n      J = (\n      K = )\n      END\n",
+        "fault 6 Q line 2\n",
+    ),
+    (
+        "      I = '\n      J = 9223372036854775808\n      END\n      PROGRAM Q\n      K = (\n      END\n",
+        "fault 10 MAIN line 1\n",
+    ),
+    (
+        "      I = 1\n      END\n      J = 1\n      END\n",
+        "fault 7 MAIN line 1\n",
+    ),
+    ("   10 I = 1\n      END\n", "fault 7 MAIN line 1\n"),
+    ("      PROGRAM P\n      END\n", "fault 7 P line 1\n"),
+    ("      K = -1\n      END\n", "fault 7 MAIN line 1\n"),
+    ("      X = 1\n      END\n", "fault 13 MAIN line 1\n"),
+    ("      PRINT *, 'AB\n      END\n", "fault 10 MAIN line 1\n"),
+];
+
 #[test]
 fn refuses_texts(rt: HostRuntime) -> Result<(), Fail> {
-    let table = [
-        ("", "fault 27 - line 0\n"),
-        ("C one\n\n", "fault 27 - line 0\n"),
-        ("      I = 1\n", "fault 5 - line 1\n"),
-        (
-            "      I = 1\n      J =\t1\n      END\n",
-            "fault 1 - line 2\n",
-        ),
-        (
-            "      I =\n      GO TO 7\n      END\n",
-            "fault 6 MAIN line 1\n",
-        ),
-        (
-            "      I = 1\n      GO TO 7\n      END\n",
-            "fault 14 MAIN line 2\n",
-        ),
-        (
-            "      I = 1\n      IF (I .EQ. 0) I = 1\n      END\n",
-            "fault 7 MAIN line 2\n",
-        ),
-        (
-            "      I = 1\n      END\n      PROGRAM Q\n      J = (\n      K = )\n      END\n",
-            "fault 6 Q line 2\n",
-        ),
-        (
-            "      I = '\n      J = 9223372036854775808\n      END\n      PROGRAM Q\n      K = (\n      END\n",
-            "fault 10 MAIN line 1\n",
-        ),
-        (
-            "      I = 1\n      END\n      J = 1\n      END\n",
-            "fault 7 MAIN line 1\n",
-        ),
-        ("   10 I = 1\n      END\n", "fault 7 MAIN line 1\n"),
-        ("      PROGRAM P\n      END\n", "fault 7 P line 1\n"),
-        ("      K = -1\n      END\n", "fault 7 MAIN line 1\n"),
-        ("      X = 1\n      END\n", "fault 13 MAIN line 1\n"),
-        ("      PRINT *, 'AB\n      END\n", "fault 10 MAIN line 1\n"),
-    ];
-    for (input, text) in table {
+    for (input, text) in &REFUSED {
         let input = Vec::from_slice(rt.alloc(), input.as_bytes())?;
         let seen = call(rt, "one 1000", input, &[], &[])?;
         assert_eq!(rt; seen.text.as_slice(), text.as_bytes(), "wanted {text}");
@@ -141,20 +145,21 @@ fn refuses_texts(rt: HostRuntime) -> Result<(), Fail> {
 }
 
 // A statement may be continued, and any byte may stand in a literal.
+static WRITTEN: [(&str, &str); 3] = [
+    (
+        "     0I = 1\n     1    + 2\n      PRINT *, I\n      END\n",
+        " 3\nended 0\n",
+    ),
+    ("      PRINT *, 'a\tb'\n      END\n", " a\tb\nended 0\n"),
+    (
+        "      PRINT *, 'IT''S', '', 'X' 'Y'\n      END\nC more\n",
+        " IT'S  X'Y\nended 0\n",
+    ),
+];
+
 #[test]
 fn asks_for_forms_of_statements(rt: HostRuntime) -> Result<(), Fail> {
-    let table = [
-        (
-            "     0I = 1\n     1    + 2\n      PRINT *, I\n      END\n",
-            " 3\nended 0\n",
-        ),
-        ("      PRINT *, 'a\tb'\n      END\n", " a\tb\nended 0\n"),
-        (
-            "      PRINT *, 'IT''S', '', 'X' 'Y'\n      END\nC more\n",
-            " IT'S  X'Y\nended 0\n",
-        ),
-    ];
-    for (input, text) in table {
+    for (input, text) in &WRITTEN {
         let input = Vec::from_slice(rt.alloc(), input.as_bytes())?;
         let seen = call(rt, "one 1000", input, &[], &[])?;
         assert_eq!(rt; seen.text.as_slice(), text.as_bytes(), "wanted {text}");

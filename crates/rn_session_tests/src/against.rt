@@ -1,13 +1,15 @@
 //! Executables beside a plain interpreter of the same statements.
-use crate::making::thin_body;
-use f77_tree::Name;
+use f77_parse::read_law;
+use f77_tree::{List, Name};
+use fixed_form::read_units;
 use itoa::Buffer;
-use rn_ports::MemSink;
+use rn_ports::{ListTally, MemSink};
+use rn_session::thin_file;
 use rv_machine::{Machine, Outcome};
 use std::alloc::{AllocError, Global};
 use std::test::Fail;
-use thin_code::program_file;
 use thin_form::{Addend, Item, Sign, Statement, Term};
+use thin_text::{Thin, thin_of};
 
 static TEXTS: [&str; 20] = [
     "      END\n",
@@ -94,12 +96,24 @@ fn interpret(alloc: Global, body: &[Statement]) -> Result<Vec<u8>, AllocError> {
     Ok(out)
 }
 
+// The statements of the thin program that a text is.
+fn body_of(alloc: Global, text: &[u8]) -> Result<List<Statement>, Fail> {
+    read_law();
+    let units = read_units(alloc, text).map_err(|_| "a text")?;
+    match thin_of(alloc, units.as_slice())? {
+        Thin::Program(body) => Ok(body),
+        Thin::Broken(_) => Err(Fail::from("a statement that isn't thin")),
+        Thin::Nothing => Err(Fail::from("no unit")),
+    }
+}
+
 #[test]
 fn executables_print_what_the_interpreter_prints(rt: HostRuntime) -> Result<(), Fail> {
     let alloc = rt.alloc();
     for text in &TEXTS {
-        let body = thin_body(alloc, text.as_bytes())?;
-        let file = program_file(alloc, body.as_slice())?;
+        let body = body_of(alloc, text.as_bytes())?;
+        let mut tally = ListTally::new(alloc)?;
+        let file = thin_file(alloc, text.as_bytes(), &mut tally).map_err(|_| "a thin text")?;
         let mut machine = Machine::load(alloc, file.as_slice(), Vec::new(alloc))?;
         let mut sink = MemSink::new(alloc, 1000, Vec::new(alloc))?;
         let outcome = machine.run(10_000, &mut sink)?;

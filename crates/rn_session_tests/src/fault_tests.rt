@@ -1,7 +1,7 @@
 //! Sources with their first fault, through the top call.
-use super::*;
 use f77_tree::List;
 use rn_ports::{FreeGate, ListTally, MemKeeper, MemSink, MemSource};
+use rn_session::rn_top;
 use std::alloc::{AllocError, Global};
 use std::test::Fail;
 
