@@ -66,16 +66,20 @@ fn told_inside(inner: &Form) -> usize {
     }
 }
 
-fn told_found(found: &Option<Form>) -> (&'static str, usize) {
+/// Whether what was found is this, with this number; `none` where no form was found.
+fn agrees(found: &Option<Form>, wanted: &str, number: usize) -> bool {
     match found {
-        Some(form) => told(form),
-        None => ("none", 0),
+        Some(form) => {
+            let (word, count) = told(form);
+            word == wanted && count == number
+        }
+        None => wanted == "none" && number == 0,
     }
 }
 
-fn told_text(alloc: Global, text: &str) -> Result<(&'static str, usize), AllocError> {
+fn has_form(alloc: Global, text: &str, wanted: &str, number: usize) -> Result<bool, AllocError> {
     let found = form_of(alloc, text.as_bytes())?;
-    Ok(told_found(&found))
+    Ok(agrees(&found, wanted, number))
 }
 
 static HEADS_AND_WORDS: [(&'static str, &'static str, usize); 34] = [
@@ -119,9 +123,7 @@ static HEADS_AND_WORDS: [(&'static str, &'static str, usize); 34] = [
 fn forms_of_heads_and_words(rt: HostRuntime) -> Result<(), Fail> {
     let alloc = rt.alloc();
     for (text, wanted, number) in &HEADS_AND_WORDS {
-        let found = told_text(alloc, *text)?;
-        assert_eq!(rt; found.0, *wanted, "at {text}");
-        assert_eq!(rt; found.1, *number, "at {text}");
+        assert!(rt; has_form(alloc, *text, *wanted, *number)?, "at {text}");
     }
     Ok(())
 }
@@ -189,22 +191,26 @@ static ACTIONS: [(&'static str, &'static str, usize); 56] = [
 fn forms_of_actions(rt: HostRuntime) -> Result<(), Fail> {
     let alloc = rt.alloc();
     for (text, wanted, number) in &ACTIONS {
-        let found = told_text(alloc, *text)?;
-        assert_eq!(rt; found.0, *wanted, "at {text}");
-        assert_eq!(rt; found.1, *number, "at {text}");
+        assert!(rt; has_form(alloc, *text, *wanted, *number)?, "at {text}");
     }
     Ok(())
 }
 
+fn is_double_function(found: &Option<Form>) -> bool {
+    matches!(
+        found,
+        Some(Form::Head(_, Some(TypeWord::DoublePrecision), _, _))
+    )
+}
+
+fn has_double_function(alloc: Global, text: &str) -> Result<bool, AllocError> {
+    let found = form_of(alloc, text.as_bytes())?;
+    Ok(is_double_function(&found))
+}
+
 #[test]
 fn keeps_the_type_of_a_function(rt: HostRuntime) -> Result<(), Fail> {
-    let alloc = rt.alloc();
-    let found = form_of(alloc, b"DOUBLEPRECISIONFUNCTIONF(X)".as_slice())?;
-    let is_double = matches!(
-        &found,
-        Some(Form::Head(_, Some(TypeWord::DoublePrecision), _, _))
-    );
-    assert!(rt; is_double);
+    assert!(rt; has_double_function(rt.alloc(), "DOUBLEPRECISIONFUNCTIONF(X)")?);
     Ok(())
 }
 
