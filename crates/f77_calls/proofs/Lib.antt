@@ -1,5 +1,6 @@
 pub mod Items
 pub mod Gathering
+pub mod Measures
 pub mod Bounding
 pub mod Entering
 pub mod Lining

@@ -1,9 +1,9 @@
 -- Bounds among operands, the first lowest, and the extents that they give, one by one.
-use Rattle.std.specs.Prelude.{ℕ, List, ◌∷◌, Option, Some, None, ℤ, pos, ◌+ℤ◌, ◌-ℤ◌, nat_lt, if◌then◌else◌}
-use Rattle.run_model.specs.Acts.{Act, Done, Fail, Undefined, and_then}
+use Rattle.std.specs.Prelude.{ℕ, List, [], ◌∷◌, Option, Some, None, ℤ, pos, ◌+ℤ◌, ◌-ℤ◌, nat_lt, if◌then◌else◌}
+use Rattle.run_model.specs.Acts.{Act, Reason, Done, Fail, Undefined, and_then}
 use Rattle.f77_tree.specs.declared.unit.Value.TheVariants.{Integer}
 use Rattle.f77_running.specs.Program.{Extent}
-use Rattle.f77_running.specs.Units.{positive}
+use Rattle.f77_running.specs.Units.{positive, filled, product, total, divide}
 use Rattle.f77_running.specs.Values.{or_fail}
 use Rattle.f77_code.specs.Entries.{pairs_in}
 use Rattle.f77_code.specs.Steps.{Operands, Item, Mark, with_some}
@@ -40,3 +40,13 @@ filled_one star (x, None) = if nat_lt star 1 then Fail (Undefined 4) else Done (
 
 abbrev pub pairs_of : Operands → Act (List (ℤ × Option ℤ))
 pairs_of os = with_some (pairs_in os) (λ ps. Done ps)
+
+-- the shape that extents give over an actual's sequence of this length
+abbrev pub shape_in : (long : ℕ) → List (ℤ × Option ℕ) → Act (List Extent)
+shape_in long es = and_then (filled (divide long (product es)) es) (λ shape. if nat_lt long (total shape) then Fail (Undefined 3) else Done shape)
+
+-- what is undefined of extents whose product is greater than that length
+abbrev pub excess : List (ℤ × Option ℕ) → Reason
+excess [] = Undefined 3
+excess ((x, None) ∷ es) = Undefined 4
+excess ((x, Some n) ∷ es) = excess es

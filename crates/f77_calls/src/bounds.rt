@@ -1,5 +1,5 @@
 //! Bounds of dummy arrays, and the shapes that they give.
-ghost use Rattle.std.specs.Prelude.{◌≡◌, [], ◌++◌, None, Some, MatchOption, IfOk, IfSome, ◌<◌, length, map, pos, ◌+ℤ◌, ◌-ℤ◌, nat_lt, if◌then◌else◌};
+ghost use Rattle.std.specs.Prelude.{◌≡◌, ℕ, [], ◌++◌, ◌*◌, None, Some, MatchOption, IfOk, IfSome, ◌<◌, length, map, pos, ◌+ℤ◌, ◌-ℤ◌, nat_lt, if◌then◌else◌};
 ghost use Rattle.run_model.specs.Acts as a;
 ghost use Rattle.f77_running.specs.Units as u;
 ghost use Rattle.f77_running.specs.Values as v;
@@ -7,7 +7,7 @@ ghost use Rattle.f77_code.specs.Denoted.{extent_of};
 ghost use Rattle.f77_code.specs.Entries as c;
 ghost use Rattle.f77_code.specs.Steps as s;
 ghost use Rattle.f77_steps.specs.Stacks.{operand_of, stack_of};
-ghost use Rattle.f77_steps.specs.Stops.{Gives};
+ghost use Rattle.f77_steps.specs.Stops.{Gives, Stopped};
 ghost use Rattle.f77_calls.specs.Bounds as b;
 ghost use Rattle.f77_calls.specs.Gathering.{behind};
 
@@ -19,7 +19,9 @@ use std::alloc::{AllocError, Global};
 // A lower bound, with an upper bound or with the number of subscripts from the one to the other. `*` has neither.
 type Pair = (i64, Option<i64>);
 
-type Sized = (i64, Option<u64>);
+// A lower bound, with the number of subscripts up to an upper bound. From the least integer to the greatest there is one more than 64 bits
+// hold.
+type Sized = (i64, Option<u128>);
 
 fn lower_on<'s, 'a>(operands: &'s [Operand<'a>]) -> Option<(i64, &'s [Operand<'a>])>
     ensures value { MatchOption result (b.lower_on (map operand_of operands.now) ≡ None) (λ p. b.lower_on (map operand_of operands.now) ≡ Some (p.0, map operand_of p.1.now)) }
@@ -68,14 +70,13 @@ fn push_pairs(all: &mut List<Pair>, operands: &[Operand]) -> Result<(), Stop>
 }
 
 // The number of subscripts from a lower to an upper bound, which is above 0.
-fn size_from(lower: i64, upper: i64) -> Result<u64, Stop>
+fn size_from(lower: i64, upper: i64) -> Result<u128, Stop>
     ensures { Gives result (λ n. n) (v.or_fail (a.Undefined 4) (u.positive ((upper -ℤ lower) +ℤ pos 1))) }
 {
     if upper < lower {
         return Err(Stop::Undefined(4));
     }
-    let size = upper.abs_diff(lower).checked_add(1).ok_or(AllocError)?;
-    Ok(size)
+    Ok(upper.abs_diff(lower) as u128 + 1)
 }
 
 fn sized(pair: &Pair) -> Result<Sized, Stop>
@@ -105,17 +106,40 @@ fn push_extents(all: &mut List<Sized>, pairs: &[Pair]) -> Result<(), Stop>
     }
 }
 
-// The product of the known extents.
-fn product(extents: &[Sized]) -> Result<u64, AllocError>
-    ensures { IfOk result (λ n. n ≡ u.product extents.now) }
+// The product of a size and a number, where it isn't greater than `long`.
+fn fits(long: u64, size: u128, rows: u64) -> Option<u64>
+    ensures { MatchOption result (long < size * rows) (λ n. n ≡ size * rows) }
+{
+    match size.checked_mul(rows as u128) {
+        Some(all) => {
+            if all <= long as u128 {
+                Some(all as u64)
+            } else {
+                None
+            }
+        }
+        None => None,
+    }
+}
+
+// The product of a size and a number that may be greater than `long` itself.
+fn times(long: u64, size: u128, rows: Option<u64>) -> Option<u64>
+    ensures { (r : ℕ) → MatchOption rows (long < r) (λ n. n ≡ r) → MatchOption result (long < size * r) (λ n. n ≡ size * r) }
+{
+    match rows {
+        Some(rows) => fits(long, size, rows),
+        None => { if size == 0 { Some(0) } else { None } }
+    }
+}
+
+// The product of the known extents, where it isn't greater than `long`.
+fn known(long: u64, extents: &[Sized]) -> Option<u64>
+    ensures { MatchOption result (long < u.product extents.now) (λ n. n ≡ u.product extents.now) }
 {
     match extents.split_first() {
-        None => Ok(1),
-        Some(((_, None), others)) => product(others),
-        Some(((_, Some(size)), others)) => {
-            let rows = product(others)?;
-            size.checked_mul(rows).ok_or(AllocError)
-        }
+        None => Some(1),
+        Some(((_, None), others)) => known(long, others),
+        Some(((_, Some(size)), others)) => times(long, *size, known(long, others)),
     }
 }
 
@@ -132,7 +156,7 @@ fn filled_one(star: u64, extent: &Sized) -> Result<Extent, Stop>
     match extent.1 {
         Some(size) => Ok(Extent {
             lower: extent.0,
-            size,
+            size: u64::try_from(size).ok().ok_or(AllocError)?,
         }),
         None => {
             if star < 1 {
@@ -162,15 +186,25 @@ fn push_filled(all: &mut List<Extent>, star: u64, extents: &[Sized]) -> Result<(
     }
 }
 
-fn total(extents: &[Extent]) -> Result<u64, AllocError>
-    ensures { IfOk result (λ n. n ≡ u.total (map extent_of extents.now)) }
+// How many elements a shape has, where that isn't more than `long`.
+fn total(long: u64, extents: &[Extent]) -> Option<u64>
+    ensures { MatchOption result (long < u.total (map extent_of extents.now)) (λ n. n ≡ u.total (map extent_of extents.now)) }
 {
     match extents.split_first() {
-        None => Ok(1),
-        Some((extent, others)) => {
-            let rows = total(others)?;
-            extent.size.checked_mul(rows).ok_or(AllocError)
-        }
+        None => Some(1),
+        Some((extent, others)) => times(long, extent.size as u128, total(long, others)),
+    }
+}
+
+// What is undefined of a shape whose known extents alone have no room: `*` stands for an extent of 0, and without one the actual argument
+// is too short.
+fn excess(extents: &[Sized]) -> Stop
+    ensures { Stopped result (λ reason. b.excess extents.now ≡ reason) }
+{
+    match extents.split_first() {
+        None => Stop::Undefined(3),
+        Some(((_, None), _)) => Stop::Undefined(4),
+        Some(((_, Some(_)), others)) => excess(others),
     }
 }
 
@@ -208,10 +242,22 @@ fn filled(alloc: Global, star: u64, extents: &[Sized]) -> Result<List<Extent>, S
 fn fitting(long: u64, shape: List<Extent>) -> Result<List<Extent>, Stop>
     ensures { Gives result (λ es. map extent_of es) (if nat_lt long (u.total (map extent_of shape)) then a.Fail (a.Undefined 3) else a.Done (map extent_of shape)) }
 {
-    if long < total(shape.as_slice())? {
-        Err(Stop::Undefined(3))
-    } else {
-        Ok(shape)
+    match total(long, shape.as_slice()) {
+        Some(all) if all <= long => Ok(shape),
+        _ => Err(Stop::Undefined(3)),
+    }
+}
+
+#[tactic(auto, using(crate::proofs::Measures::no_room))]
+fn shape_in(alloc: Global, long: u64, extents: &[Sized]) -> Result<List<Extent>, Stop>
+    ensures { Gives result (λ es. map extent_of es) (b.shape_in long extents.now) }
+{
+    match known(long, extents) {
+        Some(known) => {
+            let shape = filled(alloc, divide(long, known), extents)?;
+            fitting(long, shape)
+        }
+        None => Err(excess(extents)),
     }
 }
 
@@ -219,9 +265,7 @@ fn measured(alloc: Global, long: u64, pairs: &[Pair]) -> Result<List<Extent>, St
     ensures { Gives result (λ es. map extent_of es) (c.measured long pairs.now) }
 {
     let extents = extents_of(alloc, pairs)?;
-    let star = divide(long, product(extents.as_slice())?);
-    let shape = filled(alloc, star, extents.as_slice())?;
-    fitting(long, shape)
+    shape_in(alloc, long, extents.as_slice())
 }
 
 /// The shape of a dummy array whose bounds are these operands, the first lowest, and whose actual argument has so many storage units.
