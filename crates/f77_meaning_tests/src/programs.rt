@@ -10,6 +10,7 @@ use rn_draft::{accept, drafted};
 use sound_texts::accepted_law;
 use std::alloc::{AllocError, Global};
 
+// A statement in columns 1 to 72 of its lines.
 fn push_line(text: &mut Vec<u8>, statement: &str) -> Result<(), AllocError> {
     let bytes = statement.as_bytes();
     let digits = bytes
@@ -22,6 +23,9 @@ fn push_line(text: &mut Vec<u8>, statement: &str) -> Result<(), AllocError> {
     for (k, byte) in bytes.iter().enumerate() {
         if k == digits && digits == 0 {
             text.push(b' ')?;
+        }
+        if k > 0 && k % 66 == 0 {
+            text.extend_from_slice(b"\n     +".as_slice())?;
         }
         text.push(*byte)?;
     }

@@ -1,0 +1,6 @@
+use Rattle.std.proofs.Common.{sym, subst}
+use Rattle.f77_sound.specs.Accepted.{AllAreGood}
+use Rattle.f77_meaning_tests.proofs.chains.printed.Goals as goal
+
+pub interpret-requires-clause-good : goal.interpret-requires-clause-good
+interpret-requires-clause-good c = subst AllAreGood (sym c.as_slice-2.ensures) (c.in_ok-units.ensures {u = tt}).good
