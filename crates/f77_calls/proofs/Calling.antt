@@ -1,5 +1,5 @@
 -- Calls, played.
-use Rattle.std.proofs.Common.{◌≡◌, ℕ, suc, List, [], Option, None, Some, option_map, Result, Ok, Err, sym, ap, ◌∙◌}
+use Rattle.std.proofs.Common.{◌≡◌, ℕ, suc, List, [], Option, None, Some, option_map, Result, Err, sym, ap}
 use Rattle.run_model.specs.Storage.{Interval}
 use Rattle.run_model.specs.Acts as acts
 use Rattle.run_model.specs.Acts.{World, Fine, Outcome, then_do, Act, Ask, Answer, Handler, play}
@@ -8,27 +8,26 @@ use Rattle.f77_running.specs.Units.{Program, at_sites, meaning, run_unit}
 use Rattle.f77_running.specs.Values.{stored}
 use Rattle.f77_store.specs.Names.{Name}
 use Rattle.f77_code.specs.Steps.{Operands, with_some, passed_above}
-use Rattle.f77_steps.specs.declared.stop.Stop.{Stop}
 use Rattle.f77_steps.specs.declared.stop.Stop.TheVariants.{Stuck}
-use Rattle.f77_steps.specs.declared.machine.Machine.{Machine}
-use Rattle.f77_steps.specs.Stops.{Ends}
-use Rattle.f77_steps.specs.Worlds.{world_of}
-use Rattle.f77_steps.proofs.Plays.{weaker}
+use Rattle.f77_calls.specs.declared.halt.Halt.{Halt}
+use Rattle.f77_calls.specs.declared.halt.Halt.TheVariants.{Stop}
+use Rattle.f77_calls.specs.Behind.{behind, AllAppend}
 use Rattle.f77_calls.specs.Calls.{asking, Answers}
+use Rattle.f77_calls.specs.Sending.{Sends}
+use Rattle.f77_calls.proofs.Appending.{acts_append}
+use Rattle.f77_calls.proofs.Reaching.{sends_from, sends_then}
 
-module _ (h : Handler) (site : ℕ) (old new : Operands) (before after : Machine) where
+module _ (h : Handler) (all : AllAppend h) (site : ℕ) (old new : Operands) (before after : World) (then now : Option (List ℕ)) where
   -- a call on these actual arguments
-  pub answered : (r : Result (Option Value) Stop) (ds : List Interval) → passed_above old [] ≡ Some (ds, new) → Ends r (option_map stored) (world_of after) (h site ds (world_of before)) → Answers r h site old new before after
-  answered (Ok v) ds e end = λ go.
-      ap (λ o. play h (with_some o (λ p. Ask site p.0 (λ r. go r p.1))) (world_of before)) e ∙ ap (λ (o : Outcome Answer). then_do o (λ r w. play h (go r new) w)) end
-  answered (Err stop) ds e end = λ go.
-      let path : play h (asking site old go) (world_of before) ≡ then_do (h site ds (world_of before)) (λ r w. play h (go r new) w) =
-      ap (λ o. play h (with_some o (λ p. Ask site p.0 (λ r. go r p.1))) (world_of before)) e in
-      weaker stop (λ reason. h site ds (world_of before) ≡ acts.Stop reason (world_of after)) (λ reason. play h (asking site old go) (world_of before) ≡ acts.Stop reason (world_of after))
-      (λ reason x. path ∙ ap (λ (o : Outcome Answer). then_do o (λ r w. play h (go r new) w)) x) end
+  pub answered : (r : Result (Option Value) Halt) (ds : List Interval) → passed_above old [] ≡ Some (ds, new) → Sends r (λ v. Fine (option_map stored v)) before after then now (h site ds) → Answers r h site old new before after then now
+  answered r ds e sends go =
+      let next : Answer → World → Outcome Operands = λ x w. play h (go x new) w in
+      sends_from before after then now r (λ v w. next (option_map stored v) w) (λ w. then_do (h site ds w) next) (play h (asking site old go)) before
+      (λ sent. ap (λ o. play h (with_some o (λ p. Ask site p.0 (λ x. go x p.1))) (behind sent before)) e)
+      (sends_then before after then now r (λ v. Fine (option_map stored v)) (h site ds) next (λ x. acts_append h all (go x new)) sends)
 
-  pub not_called : passed_above old [] ≡ None → Answers (Err Stuck) h site old new before before
-  not_called e = λ go. ap (λ o. play h (with_some o (λ p. Ask site p.0 (λ r. go r p.1))) (world_of before)) e
+  pub not_called : passed_above old [] ≡ None → before ≡ after → Answers (Err (Stop Stuck)) h site old new before before then then
+  not_called e same go start sent a = record { sent = sent; appended = a; arrives = ap (λ o. play h (with_some o (λ p. Ask site p.0 (λ x. go x p.1))) (behind sent before)) e }
 
 -- where calls may go deeper, and where they may not
 pub goes_deeper : (units : Program) (depth d : ℕ) (q : Name) (ds : List Interval) (w : World) → depth ≡ suc d → run_unit (at_sites (units q) (meaning units d)) (units q) ds w ≡ meaning units depth q ds w

@@ -1,8 +1,7 @@
 -- Entries: what is associated, what is made undefined, and the bounds of dummy arrays.
 use Rattle.std.proofs.Common.{◌≡◌, ℕ, suc, List, [], ◌∷◌, Bool, if◌then◌else◌, map, refl, sym, ap, ◌∙◌}
 use Rattle.run_model.specs.Storage.{Interval}
-use Rattle.run_model.specs.Acts as acts
-use Rattle.run_model.specs.Acts.{World, Fine, then_do, Act, Done, and_then, Handler, play}
+use Rattle.run_model.specs.Acts.{World, then_do, Act, Done, and_then, Handler, play}
 use Rattle.run_model.specs.Turns.{run_from}
 use Rattle.f77_cells.specs.Rows.{is_marked}
 use Rattle.f77_running.specs.Program.{DummyArray, Extent, Routine}
@@ -14,9 +13,7 @@ use Rattle.f77_code.specs.Steps.{steps}
 use Rattle.f77_code.proofs.Acts.{assoc, later}
 use Rattle.f77_code.proofs.Entries.{dimensions_do}
 use Rattle.f77_routine.specs.Routines.{dummy_as}
-use Rattle.f77_steps.specs.declared.stop.Stop.{Stop}
-use Rattle.f77_steps.specs.Stops.{Stopped}
-use Rattle.f77_steps.proofs.Plays.{weaker}
+use Rattle.f77_calls.specs.Behind.{behind}
 use Rattle.f77_calls.specs.Entries.{long, fixed, entry_by, associated_by}
 
 pub entry_is : (f : Frame) (as_ : List DummyArray) → entry f as_ ≡ entry_by f (map dummy_as as_)
@@ -34,12 +31,5 @@ associated_is as_ marks e j [] = refl
 associated_is as_ marks e j (i ∷ is) = λ t. (if e j t then i else only_first i) ∷ associated_is as_ marks e (suc j) is t
 
 -- a unit's run from its entry on
-pub enters : (h : Handler) (u : Routine) (ds : List Interval) (w w1 : World) (f : Frame) → f ≡ entered u ds → w1 ≡ cleared u w → then_do (play h (entry f u.dummy_arrays) w1) (λ f w. run_from h (turn u f) (beginning u) w) ≡ run_unit h u ds w
-enters h u ds w w1 f start clean = λ i. then_do (play h (entry (start i) u.dummy_arrays) (clean i)) (λ f w. run_from h (turn u f) (beginning u) w)
-
-module _ (h : Handler) (u : Routine) (w w1 : World) (f : Frame) where
-  pub turns_then : (g : Frame) → play h (entry f u.dummy_arrays) w ≡ Fine g w1 → then_do (play h (entry f u.dummy_arrays) w) (λ f w. run_from h (turn u f) (beginning u) w) ≡ run_from h (turn u g) (beginning u) w1
-  turns_then g e = ap (λ o. then_do o (λ f w. run_from h (turn u f) (beginning u) w)) e
-
-  pub no_turns : (stop : Stop) → Stopped stop (λ r. play h (entry f u.dummy_arrays) w ≡ acts.Stop r w1) → Stopped stop (λ r. then_do (play h (entry f u.dummy_arrays) w) (λ f w. run_from h (turn u f) (beginning u) w) ≡ acts.Stop r w1)
-  no_turns stop x = weaker stop (λ r. play h (entry f u.dummy_arrays) w ≡ acts.Stop r w1) (λ r. then_do (play h (entry f u.dummy_arrays) w) (λ f w. run_from h (turn u f) (beginning u) w) ≡ acts.Stop r w1) (λ r e. ap (λ o. then_do o (λ f w. run_from h (turn u f) (beginning u) w)) e) x
+pub enters : (h : Handler) (u : Routine) (ds : List Interval) (w w1 : World) (f : Frame) → f ≡ entered u ds → w1 ≡ cleared u w → (sent : List ℕ) → run_unit h u ds (behind sent w) ≡ then_do (play h (entry f u.dummy_arrays) (behind sent w1)) (λ f v. run_from h (turn u f) (beginning u) v)
+enters h u ds w w1 f start clean sent = λ i. then_do (play h (entry (sym start i) u.dummy_arrays) (behind sent (sym clean i))) (λ f v. run_from h (turn u f) (beginning u) v)

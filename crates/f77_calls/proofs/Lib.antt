@@ -1,4 +1,6 @@
 pub mod Items
+pub mod Appending
+pub mod Reaching
 pub mod Gathering
 pub mod Measures
 pub mod Bounding

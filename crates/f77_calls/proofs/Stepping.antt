@@ -1,7 +1,7 @@
 -- Steps and dummy arrays one after another, played.
 use Rattle.std.proofs.Common.{◌≡◌, ℕ, ◌+◌, List, [], ◌∷◌, drop, map, refl, sym, ap, ◌∙◌}
-use Rattle.run_model.specs.Acts as acts
-use Rattle.run_model.specs.Acts.{World, Fine, Outcome, Act, Done, Fail, and_then, Handler, play}
+use Rattle.run_model.specs.Acts.{World, Fine, then_do, Act, and_then, Handler, play}
+use Rattle.run_model.proofs.Order.{play-and_then}
 use Rattle.f77_running.specs.Program as program
 use Rattle.f77_running.specs.Expressions.{Frame}
 use Rattle.f77_running.specs.Units.{entry}
@@ -14,44 +14,32 @@ use Rattle.f77_routine.specs.declared.routine.Routine.{Routine}
 use Rattle.f77_routine.specs.Pieces.{steps_of}
 use Rattle.f77_routine.specs.Routines.{Dimensioned, dummy_of}
 use Rattle.f77_routine.specs.Units.{StandsFor}
-use Rattle.f77_steps.specs.declared.stop.Stop.{Stop}
-use Rattle.f77_steps.specs.Stops.{Stopped}
-use Rattle.f77_steps.proofs.Plays.{weaker, goes_on, ends_stops}
 use Rattle.f77_calls.specs.Entries.{fixed, entry_by}
 use Rattle.f77_calls.proofs.Entering.{entry_is}
 
-module _ (h : Handler) (f : Frame) (cs : List Step) (i : ℕ) (c : Step) (s : Operands) (w w1 : World) (here : drop i cs ≡ c ∷ drop (i + 1) cs) where
-  before_rest : play h (steps f (map step_of (drop i cs)) s) w ≡ play h (and_then (step f (step_of c) s) (steps f (map step_of (drop (i + 1) cs)))) w
-  before_rest = ap (λ (l : List Step). play h (steps f (map step_of l) s) w) here
-
-  pub one_step : (t : Operands) → play h (step f (step_of c) s) w ≡ Fine t w1 → play h (steps f (map step_of (drop i cs)) s) w ≡ play h (steps f (map step_of (drop (i + 1) cs)) t) w1
-  one_step t e = before_rest ∙ goes_on h (step f (step_of c) s) (steps f (map step_of (drop (i + 1) cs))) w w1 t e
-
-  pub no_step : (stop : Stop) → Stopped stop (λ r. play h (step f (step_of c) s) w ≡ acts.Stop r w1) → Stopped stop (λ r. play h (steps f (map step_of (drop i cs)) s) w ≡ acts.Stop r w1)
-  no_step stop x = weaker stop (λ r. play h (and_then (step f (step_of c) s) (steps f (map step_of (drop (i + 1) cs)))) w ≡ acts.Stop r w1) (λ r. play h (steps f (map step_of (drop i cs)) s) w ≡ acts.Stop r w1) (λ r e. before_rest ∙ e) (ends_stops h (step f (step_of c) s) (steps f (map step_of (drop (i + 1) cs))) w stop w1 x)
+module _ (h : Handler) (f : Frame) (cs : List Step) (i : ℕ) (c : Step) (s : Operands) (here : drop i cs ≡ c ∷ drop (i + 1) cs) where
+  -- the steps from one on are that one, and then the others
+  pub step_and_rest : (w : World) → play h (steps f (map step_of (drop i cs)) s) w ≡ then_do (play h (step f (step_of c) s) w) (λ t v. play h (steps f (map step_of (drop (i + 1) cs)) t) v)
+  step_and_rest w = ap (λ (l : List Step). play h (steps f (map step_of l) s) w) here ∙ play-and_then h (step f (step_of c) s) (steps f (map step_of (drop (i + 1) cs))) w
 
 pub steps_are : (cs : List Step) → steps_of cs ≡ map step_of cs
 unfolding steps_of
 steps_are cs = refl
 
-module _ (h : Handler) (f : Frame) (arrays : List DummyArray) (i : ℕ) (a : DummyArray) (w w1 : World) (here : drop i arrays ≡ a ∷ drop (i + 1) arrays) where
+module _ (h : Handler) (f : Frame) (arrays : List DummyArray) (i : ℕ) (a : DummyArray) (here : drop i arrays ≡ a ∷ drop (i + 1) arrays) where
   abbrev others : Frame → Act Frame
   others g = entry_by g (map dummy_of (drop (i + 1) arrays))
 
-  abbrev this : Act Frame
+  abbrev pub this : Act Frame
   this = and_then (steps f (map step_of a.bounds) []) (fixed f a.dummy)
 
-  first_array : play h (entry_by f (map dummy_of (drop i arrays))) w ≡ play h (and_then this others) w
-  first_array =
+  -- the arrays from one on are that one, and then the others
+  pub array_and_rest : (w : World) → play h (entry_by f (map dummy_of (drop i arrays))) w ≡ then_do (play h this w) (λ g v. play h (entry_by g (map dummy_of (drop (i + 1) arrays))) v)
+  array_and_rest w =
       ap (λ (l : List DummyArray). play h (entry_by f (map dummy_of l)) w) here
       ∙ (ap (λ cs. play h (and_then (steps f cs []) (λ s. and_then (fixed f a.dummy s) others)) w) (steps_are a.bounds)
-      ∙ ap (λ (act : Act Frame). play h act w) (sym (assoc (steps f (map step_of a.bounds) []) (fixed f a.dummy) others)))
-
-  pub one_array : (g : Frame) → play h this w ≡ Fine g w1 → play h (entry_by f (map dummy_of (drop i arrays))) w ≡ play h (entry_by g (map dummy_of (drop (i + 1) arrays))) w1
-  one_array g e = first_array ∙ goes_on h this others w w1 g e
-
-  pub no_array : (stop : Stop) → Stopped stop (λ r. play h this w ≡ acts.Stop r w1) → Stopped stop (λ r. play h (entry_by f (map dummy_of (drop i arrays))) w ≡ acts.Stop r w1)
-  no_array stop x = weaker stop (λ r. play h (and_then this others) w ≡ acts.Stop r w1) (λ r. play h (entry_by f (map dummy_of (drop i arrays))) w ≡ acts.Stop r w1) (λ r e. first_array ∙ e) (ends_stops h this others w stop w1 x)
+      ∙ (ap (λ (act : Act Frame). play h act w) (sym (assoc (steps f (map step_of a.bounds) []) (fixed f a.dummy) others))
+      ∙ play-and_then h this others w))
 
 -- the dummy arrays of a unit by the steps of their bounds
 pub entry_of : (r : Routine) (u : program.Routine) → StandsFor r u → (f : Frame) → entry f u.dummy_arrays ≡ entry_by f (map dummy_of r.dummy_arrays)

@@ -70,7 +70,8 @@ pub fn entered<'p, 'u>(
 
 /// Makes the cells of a unit undefined that it doesn't keep.
 pub fn clear(procedure: &Procedure, machine: &mut Machine)
-    ensures { (find : Name → ℕ) → (u : program.Routine) → p.IsUnit find procedure.now u → world_of machine.new ≡ r.cleared u (world_of machine.old) }
+    ensures cleared { (find : Name → ℕ) → (u : program.Routine) → p.IsUnit find procedure.now u → world_of machine.new ≡ r.cleared u (world_of machine.old) }
+    ensures printed { machine.new.out ≡ machine.old.out }
 {
     machine
         .storage

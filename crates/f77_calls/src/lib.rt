@@ -5,9 +5,12 @@ mod answers;
 mod bounds;
 mod calls;
 mod entries;
+mod halt;
 mod lines;
 mod procedure;
+mod sending;
 mod shapes;
 
 pub use calls::call;
+pub use halt::Halt;
 pub use procedure::Procedure;

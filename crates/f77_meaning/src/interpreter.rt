@@ -1,5 +1,5 @@
 //! The interpreter.
-ghost use Rattle.std.specs.Prelude.{◌≡◌, Err, IfOk, OnOk};
+ghost use Rattle.std.specs.Prelude.{◌≡◌, Err, IfOk, OnOk, OnErr};
 ghost use Rattle.std.specs.Io.KnownBytes.{Appends};
 ghost use Rattle.run_model.specs.Runs.{text_of};
 ghost use Rattle.rn_ports.specs.Causes.{HasCause};
@@ -12,11 +12,11 @@ ghost use Rattle.f77_meaning.specs.Answers.{run_of};
 use super::program::outcome;
 use super::runs::{InterpretRefused, Run};
 use f77_tree::Unit;
-use rn_ports::{Sink, write_whole};
+use rn_ports::Sink;
 use std::alloc::Global;
 
-/// Runs an accepted program on this input, until just before it would begin the step behind the last of so many, and writes its output.
-/// A run that memory is wanting for writes nothing.
+/// Runs an accepted program on this input, until just before it would begin the step behind the last of so many. Its output goes to the
+/// sink statement by statement, as it is printed, so that no more of it is kept than one PRINT statement writes.
 pub fn interpret<O: Sink>(
     alloc: Global,
     units: &[Unit],
@@ -29,13 +29,8 @@ pub fn interpret<O: Sink>(
     requires accepted { IsAccepted units.now }
     ensures run { IfOk result (λ run. Source units.now input.now steps ≡ run_of run (text_of (Source units.now input.now steps))) }
     ensures all { OnOk result (Appends (O.written out.old) (O.written out.new) (text_of (Source units.now input.now steps))) }
-    ensures front { result ≡ Err InterpretRefused.WriteFault → AppendsPart (O.written out.old) (O.written out.new) (text_of (Source units.now input.now steps)) }
-    ensures none { result ≡ Err InterpretRefused.OutOfMemory → O.written out.new ≡ O.written out.old }
+    ensures front { OnErr result (AppendsPart (O.written out.old) (O.written out.new) (text_of (Source units.now input.now steps))) }
     ensures cause { HasCause (O.faults out.old) (O.faults out.new) (result ≡ Err InterpretRefused.WriteFault) }
 {
-    let (run, text) = outcome(alloc, units, input, steps)?;
-    match write_whole(out, text.as_slice()) {
-        Ok(()) => Ok(run),
-        Err(_) => Err(InterpretRefused::WriteFault),
-    }
+    outcome(alloc, units, input, steps, out)
 }

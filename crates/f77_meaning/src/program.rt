@@ -1,5 +1,6 @@
 //! The run of a program.
-ghost use Rattle.std.specs.Prelude.{◌≡◌, ℕ, ◌<◌, [], List as Lists, Some, IfOk, length, map, option_map, slice_get};
+ghost use Rattle.std.specs.Prelude.{◌≡◌, ℕ, ◌<◌, [], List as Lists, Option, Some, Err, IfOk, OnErr, length, map, option_map, slice_get};
+ghost use Rattle.rn_ports.specs.Causes.{HasCause};
 ghost use Rattle.run_model.specs.Acts as acts;
 ghost use Rattle.run_model.specs.Runs as runs;
 ghost use Rattle.f77_tree.specs.declared.unit.Unit as spec;
@@ -8,22 +9,23 @@ ghost use Rattle.f77_running.specs.Source as source;
 ghost use Rattle.f77_running.specs.Units as u;
 ghost use Rattle.f77_running.specs.Values.{stored};
 ghost use Rattle.f77_store.specs.Names.{Name as Word};
-ghost use Rattle.f77_steps.specs.Stops.{Ends};
 ghost use Rattle.f77_steps.specs.Worlds.{world_of};
 ghost use Rattle.f77_sound.specs.Accepted.{AllAreGood, NamesDiffer};
 ghost use Rattle.prog_check.specs.ProgramFaults.{IsAccepted};
 ghost use Rattle.f77_calls.specs.Procedures.{AreUnits};
-ghost use Rattle.f77_meaning.specs.Answers.{number_of, run_of};
-ghost use Rattle.f77_meaning.specs.Ends.{IsCause, IsEnd};
+ghost use Rattle.f77_calls.specs.Sending.{IsWhole, Reaches, Sends};
+ghost use Rattle.f77_meaning.specs.Answers.{number_of, IsTold};
+ghost use Rattle.f77_meaning.specs.Ends.{IsCause, IsEnd, IsFault};
 
 use super::places::{find, main_place, places_of};
 use super::procedures::procedures_of;
-use super::runs::{Run, Undefinedness};
+use super::runs::{InterpretRefused, Run, Undefinedness};
 use super::start::given;
-use f77_calls::{Procedure, call};
+use f77_calls::{Halt, Procedure, call};
 use f77_sound::programs_law;
 use f77_steps::{Machine, Stop};
 use f77_tree::{Unit, Value};
+use rn_ports::Sink;
 use std::alloc::{AllocError, Global};
 
 fn start<'i>(
@@ -43,16 +45,21 @@ fn start<'i>(
     })
 }
 
-// The end of the main program, and the machine there.
-fn run_main<'i>(
+// The end of the main program, with all that was printed sent where it stopped, and the machine there. Where memory is wanting before the
+// program begins, nothing is sent.
+fn run_main<'i, O: Sink>(
     alloc: Global,
     units: &[Unit],
     main: usize,
     input: &'i [i64],
     steps: u64,
-) -> Result<(Result<Option<Value>, Stop>, Machine<'i>), AllocError>
+    out: &mut O,
+) -> Result<(Result<Option<Value>, Halt>, Machine<'i>), AllocError>
     requires { main < length units.now }
-    ensures { (m : spec.Unit) → slice_get units.now main ≡ Some m → IfOk result (λ p. Ends p.0 (option_map stored) (world_of p.1) (u.meaning (u.named (map source.routine units.now) (source.routine m)) (length units.now) m.name [] (u.fresh_world (map source.routine units.now) input.now steps))) }
+    ensures run { (m : spec.Unit) → slice_get units.now main ≡ Some m → IfOk result (λ p. Sends p.0 (λ v. acts.Fine (option_map stored v)) (u.fresh_world (map source.routine units.now) input.now steps) (world_of p.1) (O.written out.old) (O.written out.new) (u.meaning (u.named (map source.routine units.now) (source.routine m)) (length units.now) m.name [])) }
+    ensures all { IfOk result (λ p. IsWhole p.0 → p.1.out.items ≡ []) }
+    ensures none { OnErr result (O.written out.new ≡ O.written out.old) }
+    ensures cause { HasCause (O.faults out.old) (O.faults out.new) (IsFault result) }
 {
     let places = places_of(alloc, units)?;
     let procedures = procedures_of(alloc, units, &places, main)?;
@@ -65,6 +72,7 @@ fn run_main<'i>(
         &[],
         units.len(),
         &mut machine,
+        out,
     );
     Ok((end, machine))
 }
@@ -84,45 +92,49 @@ fn undefinedness(number: u8) -> Undefinedness
     }
 }
 
-// What is told of a run that ended so, and its output.
+// What is told of a run that ended so.
 fn told(
     steps: u64,
-    end: Result<Option<Value>, Stop>,
-    machine: Machine,
-) -> Result<(Run, Vec<u8>), AllocError>
+    end: Result<Option<Value>, Halt>,
+    machine: &Machine,
+) -> Result<Run, InterpretRefused>
     requires { IsEnd end }
-    ensures { IfOk result (λ p. (o : acts.Outcome acts.Answer) → Ends end (option_map stored) (world_of machine.entry) o → runs.answer steps o ≡ run_of p.0 p.1.items) }
+    ensures told { (start now : Option (Lists ℕ)) → (o : acts.Outcome acts.Answer) → (IsWhole end → machine.now.out.items ≡ []) → Reaches end (λ v. acts.Fine (option_map stored v)) start now (world_of machine.now) o → (runs.answer steps o ≡ runs.Wrong → ⊥) → IsTold result start now (runs.answer steps o) }
+    ensures fault { result ≡ Err InterpretRefused.WriteFault → end ≡ Err Halt.WriteFault }
 {
     match end {
-        Err(Stop::Spent) => Ok((Run::Going, machine.out)),
-        Err(Stop::Ended(status)) => Ok((Run::Ended(status), machine.out)),
-        Err(Stop::Undefined(number)) => {
+        Err(Halt::Stop(Stop::Spent)) => Ok(Run::Going),
+        Err(Halt::Stop(Stop::Ended(status))) => Ok(Run::Ended(status)),
+        Err(Halt::Stop(Stop::Undefined(number))) => {
             let cause = undefinedness(number);
             let step = steps.saturating_sub(machine.left);
-            Ok((Run::Undefined(step, cause), machine.out))
+            Ok(Run::Undefined(step, cause))
         }
-        Err(Stop::OutOfMemory) => Err(AllocError),
-        Err(Stop::Stuck) | Ok(_) => unreachable!(),
+        Err(Halt::Stop(Stop::OutOfMemory)) => Err(InterpretRefused::OutOfMemory),
+        Err(Halt::WriteFault) => Err(InterpretRefused::WriteFault),
+        Err(Halt::Stop(Stop::Stuck)) | Ok(_) => unreachable!(),
     }
 }
 
-/// What the run of a program comes to, and its output.
-pub fn outcome(
+/// What the run of a program comes to. Its output is sent as it is printed.
+pub fn outcome<O: Sink>(
     alloc: Global,
     units: &[Unit],
     input: &[i64],
     steps: u64,
-) -> Result<(Run, Vec<u8>), AllocError>
+    out: &mut O,
+) -> Result<Run, InterpretRefused>
     requires good { AllAreGood units.now }
     requires names { NamesDiffer units.now }
     requires accepted { IsAccepted units.now }
-    ensures { IfOk result (λ p. source.Source units.now input.now steps ≡ run_of p.0 p.1.items) }
+    ensures told { IsTold result (O.written out.old) (O.written out.new) (source.Source units.now input.now steps) }
+    ensures cause { HasCause (O.faults out.old) (O.faults out.new) (result ≡ Err InterpretRefused.WriteFault) }
 {
     programs_law();
     match main_place(units) {
         Some(main) => {
-            let (end, machine) = run_main(alloc, units, main, input, steps)?;
-            told(steps, end, machine)
+            let (end, machine) = run_main(alloc, units, main, input, steps, out)?;
+            told(steps, end, &machine)
         }
         None => unreachable!(),
     }

@@ -57,7 +57,8 @@ impl<'a> Machine<'a> {
 
     /// Stores a value.
     pub fn store(&mut self, alloc: Global, spot: Spot, value: Value) -> Result<(), Stop>
-        ensures { (h : a.Handler) → Ends result (λ _. tt) (world_of self.new) (a.play h (e.store (loc_of spot.entry) value) (world_of self.old)) }
+        ensures moves { (h : a.Handler) → Ends result (λ _. tt) (world_of self.new) (a.play h (e.store (loc_of spot.entry) value) (world_of self.old)) }
+        ensures printed { self.new.out ≡ self.old.out }
     {
         self.storage.put(alloc, spot, value)?;
         Ok(())
@@ -65,7 +66,8 @@ impl<'a> Machine<'a> {
 
     /// Takes the next integer of the input and stores it.
     pub fn take_into(&mut self, alloc: Global, spot: Spot) -> Result<(), Stop>
-        ensures { (h : a.Handler) → (t : c.Operands) → Ends result (λ _. t) (world_of self.new) (a.play h (a.Take (λ x. a.and_then (e.store (loc_of spot.entry) (tree.Integer x)) (λ _. a.Done t))) (world_of self.old)) }
+        ensures moves { (h : a.Handler) → (t : c.Operands) → Ends result (λ _. t) (world_of self.new) (a.play h (a.Take (λ x. a.and_then (e.store (loc_of spot.entry) (tree.Integer x)) (λ _. a.Done t))) (world_of self.old)) }
+        ensures printed { self.new.out ≡ self.old.out }
     {
         match self.input.split_first() {
             Some((first, others)) => {
@@ -80,7 +82,8 @@ impl<'a> Machine<'a> {
     /// Begins a step, if one is left.
     #[tactic(auto, using(crate::proofs::Ticks::beginnings))]
     pub fn tick(&mut self) -> Result<(), Stop>
-        ensures { (go : a.World → a.Outcome a.Answer) → MatchResult result (λ _. t.ticked self.old.left (world_of self.old) go ≡ go (world_of self.new)) (λ e. Stopped e (λ reason. t.ticked self.old.left (world_of self.old) go ≡ a.Stop reason (world_of self.new))) }
+        ensures begins { (go : a.World → a.Outcome a.Answer) → MatchResult result (λ _. t.ticked self.old.left (world_of self.old) go ≡ go (world_of self.new)) (λ e. Stopped e (λ reason. t.ticked self.old.left (world_of self.old) go ≡ a.Stop reason (world_of self.new))) }
+        ensures printed { self.new.out ≡ self.old.out }
     {
         if self.left == 0 {
             return Err(Stop::Spent);

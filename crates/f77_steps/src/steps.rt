@@ -30,7 +30,8 @@ pub fn step<'a>(
     machine: &mut Machine,
 ) -> Result<(), Stop>
     requires { calls step.now ≡ false }
-    ensures { Moves result stack.new.items machine.old machine.new (c.step (frame_of frame.now) (step_of step.now) (stack_of stack.old.items)) }
+    ensures moves { Moves result stack.new.items machine.old machine.new (c.step (frame_of frame.now) (step_of step.now) (stack_of stack.old.items)) }
+    ensures printed { machine.new.out ≡ machine.old.out }
 {
     match step {
         Step::Push(value) => push_step(*value, stack),

@@ -22,7 +22,8 @@ fn hold<'a>(
     stack: &mut Vec<Operand<'a>>,
     machine: &mut Machine,
 ) -> Result<(), Stop>
-    ensures { Moves result stack.new.items machine.old machine.new (a.and_then (e.store (e.at (interval_of i.entry) 0) value) (λ _. c.push (stack_of stack.old.items) (c.Passed (interval_of i.entry)))) }
+    ensures moves { Moves result stack.new.items machine.old machine.new (a.and_then (e.store (e.at (interval_of i.entry) 0) value) (λ _. c.push (stack_of stack.old.items) (c.Passed (interval_of i.entry)))) }
+    ensures printed { machine.new.out ≡ machine.old.out }
 {
     let spot = spot_at(i, 0)?;
     match machine.store(alloc, spot, value) {
@@ -43,7 +44,8 @@ pub fn hold_step<'a>(
     stack: &mut Vec<Operand<'a>>,
     machine: &mut Machine,
 ) -> Result<(), Stop>
-    ensures { Moves result stack.new.items machine.old machine.new (c.step (frame_of frame.now) (c.Hold site position) (stack_of stack.old.items)) }
+    ensures moves { Moves result stack.new.items machine.old machine.new (c.step (frame_of frame.now) (c.Hold site position) (stack_of stack.old.items)) }
+    ensures printed { machine.new.out ≡ machine.old.out }
 {
     match pop_item(stack) {
         Some(value) => hold(alloc, fresh(frame, site, position), value, stack, machine),
@@ -53,7 +55,8 @@ pub fn hold_step<'a>(
 
 /// The next integer of the input, read into the location on the stack.
 pub fn take_step(alloc: Global, stack: &mut Vec<Operand>, machine: &mut Machine) -> Result<(), Stop>
-    ensures { (f : e.Frame) → Moves result stack.new.items machine.old machine.new (c.step f c.TakeIn (stack_of stack.old.items)) }
+    ensures moves { (f : e.Frame) → Moves result stack.new.items machine.old machine.new (c.step f c.TakeIn (stack_of stack.old.items)) }
+    ensures printed { machine.new.out ≡ machine.old.out }
 {
     match pop_place(stack) {
         Some(spot) => machine.take_into(alloc, spot),

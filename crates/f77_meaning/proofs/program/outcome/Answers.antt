@@ -1,32 +1,39 @@
-use Rattle.std.proofs.Common.{◌≡◌, Option, Result, option_map, ◌∙◌}
-use Rattle.std.proofs.lemmas.Result.{IfOk-weaker}
-use Rattle.run_model.specs.Acts.{World, Outcome, Answer}
-use Rattle.run_model.specs.Runs.{answer}
-use Rattle.f77_tree.specs.declared.unit.Value.{Value}
+use Rattle.std.proofs.Common.{[], subst, sym, ◌∙◌}
+use Rattle.std.proofs.KnownBytes.{Appends-nil}
 use Rattle.f77_running.specs.Source.{Source}
-use Rattle.f77_running.specs.Values.{stored}
-use Rattle.f77_steps.specs.declared.stop.Stop.{Stop}
-use Rattle.f77_steps.specs.Stops.{Ends}
 use Rattle.f77_steps.specs.Worlds.{world_of}
-use Rattle.f77_meaning.specs.Answers.{run_of}
+use Rattle.f77_meaning.specs.Answers.{IsTold}
 use Rattle.f77_meaning.proofs.Placing.{there}
-use Rattle.f77_meaning.proofs.Telling.{ended, no_main, told_so}
+use Rattle.f77_meaning.proofs.Telling.{ended, broken_off, main_outcome, no_main, runs_so}
 use Rattle.f77_meaning.proofs.program.outcome.Goals as goal
 
 pub told-requires : goal.told-requires
-told-requires c =
-    let main = there c.args.units.now c.in-Some.main (c.in-Some.ensures {u = tt}).within in
-    ended c.args.units.now c.args.input.now c.args.steps main.0 c.in_ok-end-in-Some.end (world_of c.in_ok-end-in-Some.machine) ((c.in-Some.ensures {u = tt}).main ∙ main.1) (c.in_ok-end-in-Some.ensures main.0 main.1)
-    (c.programs_law.ensures.never_wrong c.args.units.now c.requires.good c.requires.names c.requires.accepted c.args.input.now c.args.steps)
+told-requires g c =
+    let units = c.args.units.now in
+    let main = there units c.in-Some.main (c.in-Some.ensures {u = tt}).within in
+    let start = g.O.Sink.written c.args.out.now in
+    let reached = (c.in_ok-end-in-Some.ensures.run main.0 main.1) start [] (Appends-nil start) in
+    ended units c.args.input.now c.args.steps main.0 c.in_ok-end-in-Some.end start (g.O.Sink.written c.run_main.new.out) (world_of c.in_ok-end-in-Some.machine) ((c.in-Some.ensures {u = tt}).main ∙ main.1) reached
+    (c.programs_law.ensures.never_wrong units c.requires.good c.requires.names c.requires.accepted c.args.input.now c.args.steps)
 
 pub unreachable-requires : goal.unreachable-requires
-unreachable-requires c =
+unreachable-requires g c =
     c.programs_law.ensures.never_wrong c.args.units.now c.requires.good c.requires.names c.requires.accepted c.args.input.now c.args.steps (no_main c.args.units.now c.args.input.now c.args.steps (c.in-None.ensures {u = tt}).main)
 
-pub returns : goal.returns
-returns c =
-    let main = there c.args.units.now c.in-Some.main (c.in-Some.ensures {u = tt}).within in
-    let end : Result (Option Value) Stop = c.in_ok-end-in-Some.end in
-    let w : World = world_of c.in_ok-end-in-Some.machine in
-    IfOk-weaker c.told.result (λ p. (o : Outcome Answer) → Ends end (option_map stored) w o → answer c.args.steps o ≡ run_of p.0 p.1.items) (λ p. Source c.args.units.now c.args.input.now c.args.steps ≡ run_of p.0 p.1.items)
-    (λ p told. told_so c.args.units.now c.args.input.now c.args.steps main.0 end w (run_of p.0 p.1.items) ((c.in-Some.ensures {u = tt}).main ∙ main.1) (c.in_ok-end-in-Some.ensures main.0 main.1) told) c.told.ensures
+pub returns-clause-told : goal.returns-clause-told
+returns-clause-told g c =
+    let units = c.args.units.now in
+    let input = c.args.input.now in
+    let n = c.args.steps in
+    let main = there units c.in-Some.main (c.in-Some.ensures {u = tt}).within in
+    let start = g.O.Sink.written c.args.out.now in
+    let now = g.O.Sink.written c.run_main.new.out in
+    let reached = (c.in_ok-end-in-Some.ensures.run main.0 main.1) start [] (Appends-nil start) in
+    let so = runs_so units input n main.0 ((c.in-Some.ensures {u = tt}).main ∙ main.1) in
+    let never = c.programs_law.ensures.never_wrong units c.requires.good c.requires.names c.requires.accepted input n in
+    subst (λ r. IsTold c.told.result start now r) (sym so)
+    (c.told.ensures.told start now (main_outcome units input n main.0) c.in_ok-end-in-Some.ensures.all reached (λ wrong. never (so ∙ wrong)))
+
+pub returns-in_err-end-in-Some-clause-told : goal.returns-in_err-end-in-Some-clause-told
+returns-in_err-end-in-Some-clause-told g c =
+    broken_off (g.O.Sink.written c.args.out.now) (g.O.Sink.written c.run_main.new.out) (Source c.args.units.now c.args.input.now c.args.steps) c.from_residual.result c.from_residual.ensures.0 (c.in_err-end-in-Some.ensures {u = tt}).none

@@ -1,21 +1,21 @@
-use Rattle.std.proofs.Common.{◌≡◌, ℕ, List, [], Some, option_map, map, slice_get, get_or, length, subst, sym, ap, ◌∙◌}
+use Rattle.std.proofs.Common.{◌≡◌, ℕ, List, [], Some, map, slice_get, get_or, length, subst, sym, ap, ◌∙◌}
 use Rattle.std.proofs.lemmas.Option.{get_or_from_slice_get}
 use Rattle.run_model.specs.Acts.{World}
 use Rattle.f77_tree.specs.declared.unit.Unit.{Unit as SourceUnit}
 use Rattle.f77_calls.specs.declared.procedure.Procedure.{Procedure}
 use Rattle.f77_calls.specs.Procedures.{AreUnits, Represents}
+use Rattle.f77_calls.specs.Sending.{Sends}
 use Rattle.f77_running.specs.Source.{routine}
 use Rattle.f77_running.specs.Units.{Program, meaning, named}
-use Rattle.f77_running.specs.Values.{stored}
-use Rattle.f77_steps.specs.Stops.{Ends}
 use Rattle.f77_steps.specs.Worlds.{world_of}
 use Rattle.f77_store.specs.Names.{Name}
 use Rattle.f77_meaning.specs.Places.{find_of}
 use Rattle.f77_meaning.proofs.Placing.{found_at, mapped_at}
+use Rattle.f77_meaning.proofs.Telling.{answering}
 use Rattle.f77_meaning.proofs.program.run_main.Goals as goal
 
-pub returns : goal.returns
-returns c m e =
+pub returns-clause-run : goal.returns-clause-run
+returns-clause-run g c m e =
     let units : List SourceUnit = c.args.units.now in
     let find : Name → ℕ = find_of units c.args.main in
     let program : Program = named (map routine units) (routine m) in
@@ -26,5 +26,5 @@ returns c m e =
     let found : (q : Name) → slice_get (map routine units) (find q) ≡ Some (program q) = found_at units c.args.main (routine m) (mapped_at units c.args.main m e) in
     let represents : Represents c.as_slice-2.result.now (map routine units) program =
     record { find = find; each = subst (λ (ps : List Procedure). AreUnits find ps (map routine units)) (sym c.as_slice-2.ensures.value) are; found = found } in
-    subst (λ (w : World). Ends c.call-end.result (option_map stored) (world_of c.call-end.new.machine) (meaning program (length units) m.name [] w)) started
-    (c.call-end.ensures (map routine units) program represents m.name (ap (λ (k : ℕ). slice_get (map routine units) k) at ∙ found m.name))
+    subst (λ (w : World). Sends c.call-end.result answering w (world_of c.call-end.new.machine) (g.O.Sink.written c.args.out.now) (g.O.Sink.written c.call-end.new.out) (meaning program (length units) m.name [])) started
+    (c.call-end.ensures.run (map routine units) program represents m.name (ap (λ (k : ℕ). slice_get (map routine units) k) at ∙ found m.name))

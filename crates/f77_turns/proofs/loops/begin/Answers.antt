@@ -54,7 +54,7 @@ returns-in-Ok-clause-turn c = λ h.
     let whole = place ∙ (count ∙ settled s k (to_z w64 (of_z w64 c.args.first)) (to_z w64 (of_z w64 c.args.last)) (to_z w64 (of_z w64 c.args.step)) c.args.first c.args.last c.args.step first last step) in
     ap (λ (act : Act (After running.Here)). play h act w) (begun_does f s k b c.args.first c.args.last c.args.step (zero_is _ c.args.step c.is_zero.result false step c.is_zero.ensures c.if-is_zero.false))
     ∙ (ap (λ (l : Loc). play h (and_then (store l (Integer c.args.first)) next) w) (sym (c.in_ok-spot.ensures {u = tt}))
-    ∙ (goes_on h (store (loc_of c.in_ok-spot.spot) (Integer c.args.first)) next w v tt (ap (λ (z : ℤ). play h (store (loc_of c.in_ok-spot.spot) (Integer z)) w) (sym first) ∙ c.in-Ok.ensures h)
+    ∙ (goes_on h (store (loc_of c.in_ok-spot.spot) (Integer c.args.first)) next w v tt (ap (λ (z : ℤ). play h (store (loc_of c.in_ok-spot.spot) (Integer z)) w) (sym first) ∙ c.in-Ok.ensures.moves h)
     ∙ ap (λ (x : running.Here). Fine (Again x) v) (sym whole)))
 
 pub returns-in-Err-clause-turn : goal.returns-in-Err-clause-turn
@@ -71,4 +71,4 @@ returns-in-Err-clause-turn c = λ h.
     subst (λ (act : Act (After running.Here)). Stopped c.in-Err.stop (λ reason. play h act w ≡ Stop reason v)) (sym (begun_does f s k b c.args.first c.args.last c.args.step (zero_is _ c.args.step c.is_zero.result false step c.is_zero.ensures c.if-is_zero.false)))
     (subst (λ (l : Loc). Stopped c.in-Err.stop (λ reason. play h (and_then (store l (Integer c.args.first)) next) w ≡ Stop reason v)) (c.in_ok-spot.ensures {u = tt})
     (ends_stops h (store (loc_of c.in_ok-spot.spot) (Integer c.args.first)) next w c.in-Err.stop v
-    (subst (λ (z : ℤ). Stopped c.in-Err.stop (λ reason. play h (store (loc_of c.in_ok-spot.spot) (Integer z)) w ≡ Stop reason v)) first (c.in-Err.ensures h))))
+    (subst (λ (z : ℤ). Stopped c.in-Err.stop (λ reason. play h (store (loc_of c.in_ok-spot.spot) (Integer z)) w ≡ Stop reason v)) first (c.in-Err.ensures.moves h))))

@@ -22,7 +22,7 @@ returns-in-Ok c = λ h.
     ∙ (to_z-of_z w64 (wrap (n +ℤ step)) (SFits-int_wrap w64 (n +ℤ step))
     ∙ (ap (λ (z : ℤ). wrap (z +ℤ step)) (to_z-of_z w64 c.in-Ok.n fits) ∙ ap (λ (z : ℤ). wrap (c.in-Ok.n +ℤ z)) (to_z-of_z w64 c.args.step c.ranges.step))) in
     done_goes h (as_number c.args.value) (λ n. store (loc_of c.args.spot) (Integer (wrap (n +ℤ c.args.step)))) w c.store.result (λ _. tt) v c.in-Ok.n c.in-Ok.ensures
-    (subst (λ (z : ℤ). Ends c.store.result (λ _. tt) v (play h (store (loc_of c.args.spot) (Integer z)) w)) sum (c.store.ensures h))
+    (subst (λ (z : ℤ). Ends c.store.result (λ _. tt) v (play h (store (loc_of c.args.spot) (Integer z)) w)) sum (c.store.ensures.moves h))
 
 pub returns-in-Err : goal.returns-in-Err
 returns-in-Err c = λ h.
