@@ -9,10 +9,10 @@ use Rattle.fault_marks.specs.Earliest.{first_of, Earliest}
 use Rattle.fault_marks.specs.Marks.{IsFirst}
 use Rattle.fault_marks.specs.Refusals.{RefusesMark}
 use Rattle.fault_marks.proofs.Firsts.{mapped, either}
-use Rattle.f77_names.specs.NameFaults.{NameFaults}
-use Rattle.f77_jumps.specs.Faults.{JumpFaults}
-use Rattle.f77_types.specs.TypeFaults.{TypeFaults}
-use Rattle.f77_values.specs.ValueFaults.{ValueFaults}
+use Rattle.check_names.specs.NameFaults.{NameFaults}
+use Rattle.check_jumps.specs.Faults.{JumpFaults}
+use Rattle.check_types.specs.TypeFaults.{TypeFaults}
+use Rattle.check_constants.specs.ValueFaults.{ValueFaults}
 use Rattle.f77_check.specs.UnitFaults.{UnitFaults, of_names, of_jumps, of_types, of_values, Explains}
 
 first_among : (u : SourceUnit) (a b c d : Option Mark) → Earliest (NameFaults u) a → Earliest (JumpFaults u.statements) b → Earliest (TypeFaults u) c → Earliest (ValueFaults u) d →

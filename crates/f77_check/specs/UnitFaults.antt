@@ -8,10 +8,10 @@ use Rattle.f77_tree.specs.declared.unit.Unit.{Unit as SourceUnit}
 use Rattle.fault_marks.specs.declared.marks.Mark.{Mark}
 use Rattle.fault_marks.specs.Marks.{IsFirst}
 use Rattle.fault_marks.specs.Refusals.{fault_of}
-use Rattle.f77_names.specs.NameFaults.{NameFaults}
-use Rattle.f77_jumps.specs.Faults.{JumpFaults}
-use Rattle.f77_types.specs.TypeFaults.{TypeFaults}
-use Rattle.f77_values.specs.ValueFaults.{ValueFaults}
+use Rattle.check_names.specs.NameFaults.{NameFaults}
+use Rattle.check_jumps.specs.Faults.{JumpFaults}
+use Rattle.check_types.specs.TypeFaults.{TypeFaults}
+use Rattle.check_constants.specs.ValueFaults.{ValueFaults}
 
 -- A statement of the unit shows the fault.
 pub data UnitFaults (u : SourceUnit) (mark : Mark) : Type 0 where

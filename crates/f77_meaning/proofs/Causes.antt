@@ -15,13 +15,13 @@ use Rattle.f77_store.specs.declared.intrinsics.Intrinsic.TheVariants.{Abs, Mod, 
 use Rattle.f77_store.specs.Arithmetic.{operate, divided, negated, kept, denied}
 use Rattle.f77_store.specs.Names.{Name}
 use Rattle.f77_flow.specs.Graph.{Point, At, Inside, Test, Advance}
-use Rattle.f77_running.specs.Values.{stored, seen, has_type, or_fail, lacking, operated, remainder, intrinsic}
-use Rattle.f77_running.specs.Program.{Base, Extent, Array, Term, Literal, Text, Variable, Element, Whole, Reference, Apply, Paren, Negative, Plus, Not, Binary, NoTerm, Terms, End, ◌and◌, Statement, Assign, If, LogicalIf, ArithmeticIf, GoTo, ComputedGoTo, Do, Continue, Call, Return, Print, Read, NoStatement, Bound, DummyArray, Routine}
-use Rattle.f77_running.specs.Program as program
-use Rattle.f77_running.specs.Expressions.{Frame, interval, at, scalar, shape, numbered, integers, element, sequence, resulting, fresh, fetch, store, value, values, actuals}
-use Rattle.f77_running.specs.Statements.{Here, set_loop, as_number, as_truth, number, condition, target, written, items, say_all, say_record, read_all, trips, chosen, step_of, to, to_chosen, return, tested, perform, inner, advance, statement, turn_at, turn}
+use Rattle.f77_semantics.specs.Values.{stored, seen, has_type, or_fail, lacking, operated, remainder, intrinsic}
+use Rattle.f77_semantics.specs.Program.{Base, Extent, Array, Term, Literal, Text, Variable, Element, Whole, Reference, Apply, Paren, Negative, Plus, Not, Binary, NoTerm, Terms, End, ◌and◌, Statement, Assign, If, LogicalIf, ArithmeticIf, GoTo, ComputedGoTo, Do, Continue, Call, Return, Print, Read, NoStatement, Bound, DummyArray, Routine}
+use Rattle.f77_semantics.specs.Program as program
+use Rattle.f77_semantics.specs.Expressions.{Frame, interval, at, scalar, shape, numbered, integers, element, sequence, resulting, fresh, fetch, store, value, values, actuals}
+use Rattle.f77_semantics.specs.Statements.{Here, set_loop, as_number, as_truth, number, condition, target, written, items, say_all, say_record, read_all, trips, chosen, step_of, to, to_chosen, return, tested, perform, inner, advance, statement, turn_at, turn}
 use Rattle.f77_meaning.specs.Ends.{IsCause}
-use Rattle.f77_running.specs.Units.{Program, lower_of, upper_of, bounds_of, positive, extents, product, divide, filled, total, dimensions, with_shape, entry, cleared, entered, beginning, at_sites, meaning, callee}
+use Rattle.f77_semantics.specs.Units.{Program, lower_of, upper_of, bounds_of, positive, extents, product, divide, filled, total, dimensions, with_shape, entry, cleared, entered, beginning, at_sites, meaning, callee}
 
 abbrev pub ForCause : Reason → Type 0
 ForCause (Undefined c) = IsCause c

@@ -6,15 +6,15 @@ use Rattle.std.proofs.lemmas.List.FromFn.{map-range_with_len_more}
 use Rattle.run_model.specs.Storage.{Loc, loc_eq, Cells}
 use Rattle.f77_tree.specs.declared.unit.Value.{Value}
 use Rattle.f77_store.specs.Names.{Name}
-use Rattle.f77_running.specs.Values.{stored}
-use Rattle.f77_running.specs.Program.{Base, Routine}
-use Rattle.f77_running.specs.Expressions.{scalar}
-use Rattle.f77_running.specs.Data.{beyond}
-use Rattle.f77_running.specs.Units.{given_in, given}
-use Rattle.f77_routine.specs.declared.runs.Run.{Run}
-use Rattle.f77_routine.specs.Runs.{given_from, units_of}
-use Rattle.f77_calls.specs.declared.procedure.Procedure.{Procedure}
-use Rattle.f77_calls.specs.Procedures.{AreUnits}
+use Rattle.f77_semantics.specs.Values.{stored}
+use Rattle.f77_semantics.specs.Program.{Base, Routine}
+use Rattle.f77_semantics.specs.Expressions.{scalar}
+use Rattle.f77_semantics.specs.Data.{beyond}
+use Rattle.f77_semantics.specs.Units.{given_in, given}
+use Rattle.interp_lower.specs.declared.runs.Run.{Run}
+use Rattle.interp_lower.specs.Runs.{given_from, units_of}
+use Rattle.interp_calls.specs.declared.procedure.Procedure.{Procedure}
+use Rattle.interp_calls.specs.Procedures.{AreUnits}
 use Rattle.f77_meaning.specs.Given.{idle, given_over, given_by}
 
 pub given_both : (name : Name) (cs ds : List (Base × Value)) (cells : Cells) → given_over name (cs ++ ds) cells ≡ given_over name cs (given_over name ds cells)

@@ -9,18 +9,18 @@ use Rattle.f77_store.specs.Occurrences.{in_statement}
 use Rattle.f77_store.specs.Layouts.{callees_with, layout_of}
 use Rattle.f77_store.specs.Roles.{facts}
 use Rattle.f77_flow.specs.Blocks as blocks
-use Rattle.f77_cells.specs.Rows.{is_marked}
-use Rattle.f77_running.specs.Program.{Routine}
-use Rattle.f77_running.specs.Terms.{Meant}
-use Rattle.f77_running.specs.Resolve.{statements_from}
-use Rattle.f77_running.specs.Source.{is_main, meant_in, routine}
-use Rattle.f77_running.specs.Units.{is_kept}
-use Rattle.f77_turns.specs.Flows.{Follows}
-use Rattle.f77_routine.specs.Cells.{kept_of}
-use Rattle.f77_routine.specs.Routines.{dummy_of}
-use Rattle.f77_routine.specs.Units.{StandsFor}
-use Rattle.f77_calls.specs.declared.procedure.Procedure.{Procedure}
-use Rattle.f77_calls.specs.Procedures.{IsUnit, AreUnits}
+use Rattle.interp_cells.specs.Rows.{is_marked}
+use Rattle.f77_semantics.specs.Program.{Routine}
+use Rattle.f77_semantics.specs.Terms.{Meant}
+use Rattle.f77_semantics.specs.Resolve.{statements_from}
+use Rattle.f77_semantics.specs.Source.{is_main, meant_in, routine}
+use Rattle.f77_semantics.specs.Units.{is_kept}
+use Rattle.interp_turns.specs.Flows.{Follows}
+use Rattle.interp_lower.specs.Cells.{kept_of}
+use Rattle.interp_lower.specs.Routines.{dummy_of}
+use Rattle.interp_lower.specs.Units.{StandsFor}
+use Rattle.interp_calls.specs.declared.procedure.Procedure.{Procedure}
+use Rattle.interp_calls.specs.Procedures.{IsUnit, AreUnits}
 use Rattle.f77_meaning.specs.Marks.{is_dimensioned}
 use Rattle.f77_meaning.proofs.Marking.{dimensioned_is}
 

@@ -12,14 +12,14 @@ use Rattle.run_model.specs.Runs as runs
 use Rattle.run_model.specs.Runs.{Wrong, answer, text_of, Begins}
 use Rattle.f77_tree.specs.declared.unit.Unit.{Unit as SourceUnit}
 use Rattle.f77_tree.specs.declared.unit.Value.{Value}
-use Rattle.f77_running.specs.Values.{stored}
-use Rattle.f77_running.specs.Source.{Source, main_of, routine, with_main}
-use Rattle.f77_running.specs.Units.{meaning, named, fresh_world}
-use Rattle.f77_steps.specs.declared.stop.Stop.TheVariants.{Spent, Ended, Undefined, Stuck, OutOfMemory}
-use Rattle.f77_calls.specs.declared.halt.Halt.{Halt}
-use Rattle.f77_calls.specs.declared.halt.Halt.TheVariants.{Stop, WriteFault}
-use Rattle.f77_calls.specs.Behind.{behind, said_in}
-use Rattle.f77_calls.specs.Sending.{IsWhole, Reaches}
+use Rattle.f77_semantics.specs.Values.{stored}
+use Rattle.f77_semantics.specs.Source.{Source, main_of, routine, with_main}
+use Rattle.f77_semantics.specs.Units.{meaning, named, fresh_world}
+use Rattle.interp_steps.specs.declared.stop.Stop.TheVariants.{Spent, Ended, Undefined, Stuck, OutOfMemory}
+use Rattle.interp_calls.specs.declared.halt.Halt.{Halt}
+use Rattle.interp_calls.specs.declared.halt.Halt.TheVariants.{Stop, WriteFault}
+use Rattle.interp_calls.specs.Behind.{behind, said_in}
+use Rattle.interp_calls.specs.Sending.{IsWhole, Reaches}
 use Rattle.f77_meaning.specs.declared.runs.InterpretRefused.{InterpretRefused}
 use Rattle.f77_meaning.specs.declared.runs.Run.{Run}
 use Rattle.f77_meaning.specs.declared.runs.Run.TheVariants as run

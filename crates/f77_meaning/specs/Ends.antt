@@ -1,9 +1,9 @@
 -- How a program's run can end.
 use Rattle.std.specs.Prelude.{◌≡◌, ℕ, ◌≤◌, Option, Result, Ok, Err}
 use Rattle.f77_tree.specs.declared.unit.Value.{Value}
-use Rattle.f77_steps.specs.declared.stop.Stop.TheVariants.{Undefined, Stuck}
-use Rattle.f77_calls.specs.declared.halt.Halt.{Halt}
-use Rattle.f77_calls.specs.declared.halt.Halt.TheVariants.{Stop, WriteFault}
+use Rattle.interp_steps.specs.declared.stop.Stop.TheVariants.{Undefined, Stuck}
+use Rattle.interp_calls.specs.declared.halt.Halt.{Halt}
+use Rattle.interp_calls.specs.declared.halt.Halt.TheVariants.{Stop, WriteFault}
 
 -- Undefined actions have the numbers 1 to 6.
 pub record IsCause (c : ℕ) : Type 0 where

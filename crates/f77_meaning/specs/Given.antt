@@ -3,11 +3,11 @@ use Rattle.std.specs.Prelude.{List, [], ◌∷◌, Some, cond, pos, flat_map}
 use Rattle.run_model.specs.Storage.{Cells, loc_eq}
 use Rattle.f77_tree.specs.declared.unit.Value.{Value}
 use Rattle.f77_store.specs.Names.{Name}
-use Rattle.f77_running.specs.Values.{stored}
-use Rattle.f77_running.specs.Program.{Base}
-use Rattle.f77_running.specs.Expressions.{Frame, scalar}
-use Rattle.f77_routine.specs.Runs.{units_of}
-use Rattle.f77_calls.specs.declared.procedure.Procedure.{Procedure}
+use Rattle.f77_semantics.specs.Values.{stored}
+use Rattle.f77_semantics.specs.Program.{Base}
+use Rattle.f77_semantics.specs.Expressions.{Frame, scalar}
+use Rattle.interp_lower.specs.Runs.{units_of}
+use Rattle.interp_calls.specs.declared.procedure.Procedure.{Procedure}
 
 -- a unit of this name that isn't called
 abbrev pub idle : Name → Frame

@@ -1,6 +1,6 @@
 -- Marks of cells and of dummies.
 use Rattle.std.specs.Prelude.{ℕ, ◌+◌, List, [], ◌∷◌, Bool, false, ◌&&◌, ◌||◌, nat_eq, nat_le, nat_lt}
-use Rattle.f77_routine.specs.Routines.{Dimensioned}
+use Rattle.interp_lower.specs.Routines.{Dimensioned}
 
 abbrev pub is_between : (from length : ℕ) → ℕ → Bool
 is_between from length k = nat_le from k && nat_lt k (from + length)

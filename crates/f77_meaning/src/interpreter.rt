@@ -4,8 +4,8 @@ ghost use Rattle.std.specs.Io.KnownBytes.{Appends};
 ghost use Rattle.run_model.specs.Runs.{text_of};
 ghost use Rattle.rn_ports.specs.Causes.{HasCause};
 ghost use Rattle.rn_ports.specs.Sent.{AppendsPart};
-ghost use Rattle.f77_running.specs.Source.{Source};
-ghost use Rattle.f77_sound.specs.Accepted.{AllAreGood, NamesDiffer};
+ghost use Rattle.f77_semantics.specs.Source.{Source};
+ghost use Rattle.sound_units.specs.Accepted.{AllAreGood, NamesDiffer};
 ghost use Rattle.prog_check.specs.ProgramFaults.{IsAccepted};
 ghost use Rattle.f77_meaning.specs.Answers.{run_of};
 

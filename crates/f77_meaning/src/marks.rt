@@ -1,13 +1,13 @@
 //! Marks of the local cells that a unit keeps, and of its dummies that are arrays.
 ghost use Rattle.std.specs.Prelude.{◌≡◌, ℕ, ◌≤◌, ◌||◌, length, map, IfOk, OnOk};
-ghost use Rattle.f77_running.specs.Units.{is_kept};
-ghost use Rattle.f77_cells.specs.Rows.{is_marked};
-ghost use Rattle.f77_routine.specs.Cells.{kept_of};
-ghost use Rattle.f77_routine.specs.Routines.{dummy_of};
+ghost use Rattle.f77_semantics.specs.Units.{is_kept};
+ghost use Rattle.interp_cells.specs.Rows.{is_marked};
+ghost use Rattle.interp_lower.specs.Cells.{kept_of};
+ghost use Rattle.interp_lower.specs.Routines.{dummy_of};
 ghost use Rattle.f77_meaning.specs.Marks as m;
 
-use f77_routine::{DummyArray, Kept};
 use f77_tree::List;
+use interp_lower::{DummyArray, Kept};
 use std::alloc::{AllocError, Global};
 
 fn make_room(marks: &mut Vec<bool>, end: usize) -> Result<(), AllocError>

@@ -4,20 +4,20 @@ ghost use Rattle.indexmap.specs.IndexMap.{get};
 ghost use Rattle.f77_tree.specs.declared.unit.Unit as spec;
 ghost use Rattle.f77_store.specs.Names.{Name as Word, name_eq};
 ghost use Rattle.f77_flow.specs.Blocks as blocks;
-ghost use Rattle.f77_running.specs.Program as program;
-ghost use Rattle.f77_running.specs.Source.{routine};
-ghost use Rattle.f77_turns.specs.Flows.{Follows};
-ghost use Rattle.f77_routine.specs.Units.{StandsFor};
-ghost use Rattle.f77_calls.specs.Procedures.{IsUnit, AreUnits};
+ghost use Rattle.f77_semantics.specs.Program as program;
+ghost use Rattle.f77_semantics.specs.Source.{routine};
+ghost use Rattle.interp_turns.specs.Flows.{Follows};
+ghost use Rattle.interp_lower.specs.Units.{StandsFor};
+ghost use Rattle.interp_calls.specs.Procedures.{IsUnit, AreUnits};
 ghost use Rattle.f77_meaning.specs.Places as p;
 
 use super::marks::{array_marks, kept_marks};
 use super::places::{find, find_all};
-use f77_calls::Procedure;
 use f77_flow::Control;
-use f77_routine::{Routine, routine_of};
 use f77_tree::{Name, Unit};
 use indexmap::IndexMap;
+use interp_calls::Procedure;
+use interp_lower::{Routine, routine_of};
 use std::alloc::{AllocError, Global};
 
 fn control_of<'u>(alloc: Global, unit: &'u Unit) -> Result<Control<'u>, AllocError>

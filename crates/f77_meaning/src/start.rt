@@ -1,18 +1,18 @@
 //! The world in which a program starts.
 ghost use Rattle.std.specs.Prelude.{◌≡◌, ◌+◌, [], ◌∷◌, None, flat_map, IfOk, OnOk};
-ghost use Rattle.f77_running.specs.Data.{beyond};
-ghost use Rattle.f77_running.specs.Expressions.{scalar};
-ghost use Rattle.f77_cells.specs.Cells.{cells_of};
-ghost use Rattle.f77_cells.specs.Spots.{loc_of};
-ghost use Rattle.f77_code.specs.Denoted.{base_of};
-ghost use Rattle.f77_routine.specs.Runs.{units_of};
+ghost use Rattle.f77_semantics.specs.Data.{beyond};
+ghost use Rattle.f77_semantics.specs.Expressions.{scalar};
+ghost use Rattle.interp_cells.specs.Cells.{cells_of};
+ghost use Rattle.interp_cells.specs.Spots.{loc_of};
+ghost use Rattle.interp_code.specs.Denoted.{base_of};
+ghost use Rattle.interp_lower.specs.Runs.{units_of};
 ghost use Rattle.f77_meaning.specs.Given as g;
 
-use f77_calls::Procedure;
-use f77_cells::{Area, Spot, Storage};
-use f77_code::Base;
-use f77_routine::Run;
 use f77_tree::{List, Name};
+use interp_calls::Procedure;
+use interp_cells::{Area, Spot, Storage};
+use interp_code::Base;
+use interp_lower::Run;
 use std::alloc::{AllocError, Global};
 
 fn offset(from: u32, far: u64) -> Result<usize, AllocError>

@@ -7,7 +7,7 @@ use Rattle.fixed_form.specs.declared.reader.UnitText.{UnitText}
 use Rattle.fixed_form.specs.Reading.{Reads}
 use Rattle.rn_draft.specs.Accepted.{Accepted}
 use Rattle.rn_draft.specs.Drafts.{drafted}
-use Rattle.f77_sound.specs.Accepted.{AllAreGood, NamesDiffer}
+use Rattle.sound_units.specs.Accepted.{AllAreGood, NamesDiffer}
 use Rattle.prog_check.specs.ProgramFaults.{IsAccepted}
 use Rattle.sound_texts.specs.Laws.{AreSound, AcceptedAreSound}
 

@@ -1,6 +1,6 @@
 //! Programs from their texts.
 ghost use Rattle.std.specs.Prelude.{IfOk};
-ghost use Rattle.f77_sound.specs.Accepted.{AllAreGood, NamesDiffer};
+ghost use Rattle.sound_units.specs.Accepted.{AllAreGood, NamesDiffer};
 ghost use Rattle.prog_check.specs.ProgramFaults.{IsAccepted};
 
 use f77_parse::read_law;

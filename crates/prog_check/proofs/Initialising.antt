@@ -4,9 +4,9 @@ use Rattle.std.specs.declared.option.Option.{Option}
 use Rattle.std.specs.Option.{option_map}
 use Rattle.std.proofs.lemmas.Bool.{cases_lt}
 use Rattle.f77_tree.specs.declared.unit.Unit.{Unit as SourceUnit}
-use Rattle.common_data.specs.declared.again.Again.{Again}
-use Rattle.common_data.specs.Again.{IsAgain, IsFirstAgain, FirstAgain}
-use Rattle.common_data.specs.Initials.{initials}
+use Rattle.check_common.specs.declared.again.Again.{Again}
+use Rattle.check_common.specs.Again.{IsAgain, IsFirstAgain, FirstAgain}
+use Rattle.check_common.specs.Initials.{initials}
 use Rattle.prog_check.specs.declared.marks.ProgramMark.{ProgramMark}
 use Rattle.prog_check.specs.Initialised.{mark_of, IsInitialisedAgain}
 use Rattle.prog_check.specs.Marks.{comes_first, Earliest}

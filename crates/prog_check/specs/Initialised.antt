@@ -1,9 +1,9 @@
 -- A storage unit of a COMMON block is initialised in one unit of the program at most (ANSI X3.9-1978, sections 9.1 and 16.2).
 use Rattle.std.specs.Prelude.{◌≡◌, List, Some}
 use Rattle.f77_tree.specs.declared.unit.Unit.{Unit}
-use Rattle.common_data.specs.declared.again.Again.{Again}
-use Rattle.common_data.specs.Again.{IsAgain}
-use Rattle.common_data.specs.Initials.{initials}
+use Rattle.check_common.specs.declared.again.Again.{Again}
+use Rattle.check_common.specs.Again.{IsAgain}
+use Rattle.check_common.specs.Initials.{initials}
 use Rattle.prog_check.specs.declared.marks.ProgramMark.{ProgramMark}
 use Rattle.prog_check.specs.Shown.{mark_at}
 

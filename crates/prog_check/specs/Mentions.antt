@@ -13,7 +13,7 @@ use Rattle.f77_store.specs.declared.attributes.Attributes.{Attributes}
 use Rattle.f77_store.specs.declared.roles.Facts.{Facts}
 use Rattle.f77_store.specs.Names.{Name, is_among}
 use Rattle.f77_store.specs.Roles.{facts, is_function, type_of}
-use Rattle.f77_types.specs.ExpressionTypes.{expression_type}
+use Rattle.check_types.specs.ExpressionTypes.{expression_type}
 use Rattle.prog_check.specs.declared.mentions.Wanted.{Wanted}
 use Rattle.prog_check.specs.declared.mentions.Wanted.TheVariants.{Subroutine, Function}
 use Rattle.prog_check.specs.declared.mentions.Actual.{Actual}

@@ -6,7 +6,7 @@ ghost use Rattle.prog_check.specs.Marks as k;
 
 use super::marks::ProgramMark;
 use super::scans::mark_at;
-use common_data::{Again, initialised_again};
+use check_common::{Again, initialised_again};
 use f77_tree::Unit;
 use std::alloc::{AllocError, Global};
 

@@ -12,7 +12,7 @@ use Rattle.rv_machine.specs.declared.outcome.Outcome.{Outcome}
 use Rattle.rv_machine.specs.declared.outcome.Outcome.TheVariants.{Running, Halted, Trap}
 use Rattle.rv_machine.specs.Machine.{State, run, output}
 use Rattle.rv_machine.proofs.Steps.{output-grows, end_stays}
-use Rattle.f77_running.specs.Source.{Source}
+use Rattle.f77_semantics.specs.Source.{Source}
 use Rattle.thin_code.specs.Sizes.{steps_each, words_each}
 use Rattle.thin_code.specs.Agreement.{IsOrderly, HasEnded, IsUndefined}
 use Rattle.rn_session.specs.declared.status.Status.{Status}

@@ -11,7 +11,7 @@ use Rattle.f77_tree.specs.declared.fault.Refused.TheVariants.{Fault, OutOfMemory
 use Rattle.thin_form.specs.declared.statement.Statement.{Statement}
 use Rattle.thin_text.specs.Thin.{text_bytes}
 use Rattle.rn_session.specs.Texts.{IsThinText, IsTextFault}
-use Rattle.f77_running.specs.Source.{Source}
+use Rattle.f77_semantics.specs.Source.{Source}
 use Rattle.thin_code.specs.Sizes.{steps_each, words_each}
 use Rattle.thin_code.specs.Agreement.{Agrees, EndsWithin, IsOrderly}
 use Rattle.rv_machine.specs.Start.{Loads}

@@ -13,12 +13,12 @@ use Rattle.f77_store.specs.declared.intrinsics.Intrinsic.TheVariants.{Abs, Mod, 
 use Rattle.f77_store.specs.Arithmetic.{operate, divided, negated, kept, denied}
 use Rattle.f77_store.specs.Names.{Name}
 use Rattle.f77_flow.specs.Graph.{Point, At, Inside, Test, Advance}
-use Rattle.f77_running.specs.Values.{stored, seen, has_type, or_fail, lacking, remainder, intrinsic}
-use Rattle.f77_running.specs.Program.{Base, Dummy, Extent, Array, Term, Literal, Text, Variable, Element, Whole, Reference, Apply, Paren, Negative, Plus, Not, Binary, NoTerm, Terms, End, ◌and◌, Statement, Assign, If, LogicalIf, ArithmeticIf, GoTo, ComputedGoTo, Do, Continue, Call, Return, Print, Read, NoStatement, Bound, DummyArray, Routine}
-use Rattle.f77_running.specs.Program as program
-use Rattle.f77_running.specs.Expressions.{Frame, interval, at, shape, numbered, integers, element, sequence, scalar, resulting, fresh, fetch, store, value, values, actuals}
-use Rattle.f77_running.specs.Statements.{Here, as_number, as_truth, number, condition, target, written, items, say_all, say_record, trips, set_loop, chosen, step_of, to, to_chosen, return, tested, perform, inner, advance, statement, turn_at, turn}
-use Rattle.f77_running.specs.Units.{lower_of, upper_of, bounds_of, positive, extents, product, filled, total, divide, dimensions, with_shape, entry, entered, beginning, cleared, run_unit, at_sites, callee, Program, meaning}
+use Rattle.f77_semantics.specs.Values.{stored, seen, has_type, or_fail, lacking, remainder, intrinsic}
+use Rattle.f77_semantics.specs.Program.{Base, Dummy, Extent, Array, Term, Literal, Text, Variable, Element, Whole, Reference, Apply, Paren, Negative, Plus, Not, Binary, NoTerm, Terms, End, ◌and◌, Statement, Assign, If, LogicalIf, ArithmeticIf, GoTo, ComputedGoTo, Do, Continue, Call, Return, Print, Read, NoStatement, Bound, DummyArray, Routine}
+use Rattle.f77_semantics.specs.Program as program
+use Rattle.f77_semantics.specs.Expressions.{Frame, interval, at, shape, numbered, integers, element, sequence, scalar, resulting, fresh, fetch, store, value, values, actuals}
+use Rattle.f77_semantics.specs.Statements.{Here, as_number, as_truth, number, condition, target, written, items, say_all, say_record, trips, set_loop, chosen, step_of, to, to_chosen, return, tested, perform, inner, advance, statement, turn_at, turn}
+use Rattle.f77_semantics.specs.Units.{lower_of, upper_of, bounds_of, positive, extents, product, filled, total, divide, dimensions, with_shape, entry, entered, beginning, cleared, run_unit, at_sites, callee, Program, meaning}
 
 -- acts that take nothing, whatever they read and are answered
 abbrev Blind : {A : Type 0} → Act A → Type 0

@@ -13,13 +13,13 @@ use Rattle.f77_store.specs.Layouts.{callees_with, layout_of}
 use Rattle.f77_store.specs.Occurrences.{in_statement}
 use Rattle.f77_store.specs.Roles as roles
 use Rattle.f77_flow.specs.Labels.{target}
-use Rattle.f77_running.specs.Program as program
-use Rattle.f77_running.specs.Program.{Term, Statement, Routine}
-use Rattle.f77_running.specs.Statements.{statement}
-use Rattle.f77_running.specs.Terms.{Meant, Variable}
-use Rattle.f77_running.specs.Resolve.{loop, term, sites, optional, simple, statement_of, statements_from}
-use Rattle.f77_running.specs.Units.{named, fresh_world, running}
-use Rattle.f77_running.specs.Source.{meant_in, is_main, main_of, routine, with_main, Source}
+use Rattle.f77_semantics.specs.Program as program
+use Rattle.f77_semantics.specs.Program.{Term, Statement, Routine}
+use Rattle.f77_semantics.specs.Statements.{statement}
+use Rattle.f77_semantics.specs.Terms.{Meant, Variable}
+use Rattle.f77_semantics.specs.Resolve.{loop, term, sites, optional, simple, statement_of, statements_from}
+use Rattle.f77_semantics.specs.Units.{named, fresh_world, running}
+use Rattle.f77_semantics.specs.Source.{meant_in, is_main, main_of, routine, with_main, Source}
 use Rattle.run_laws.specs.Laws.{is_read, has_read, unit_reads}
 use Rattle.run_laws.proofs.Blind.{ReadsNot, alone, on, meaning_on}
 

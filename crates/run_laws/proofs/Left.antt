@@ -6,9 +6,9 @@ use Rattle.run_model.specs.Acts.{World, Spent, Ended, Undefined, Stuck, Outcome,
 use Rattle.run_model.specs.Turns.{After, Again, Result, ticked, follow, turns, run_from}
 use Rattle.run_model.proofs.Extend.{with_more}
 use Rattle.f77_store.specs.Names.{Name}
-use Rattle.f77_running.specs.Program.{Routine}
-use Rattle.f77_running.specs.Statements.{turn}
-use Rattle.f77_running.specs.Units.{Program, entry, cleared, entered, beginning, run_unit, at_sites, meaning, callee}
+use Rattle.f77_semantics.specs.Program.{Routine}
+use Rattle.f77_semantics.specs.Statements.{turn}
+use Rattle.f77_semantics.specs.Units.{Program, entry, cleared, entered, beginning, run_unit, at_sites, meaning, callee}
 
 abbrev pub left_of : {A : Type 0} → Outcome A → ℕ
 left_of (Fine x v) = v.left

@@ -9,10 +9,10 @@ use Rattle.f77_tree.specs.declared.unit.Unit.{Unit as SourceUnit}
 use Rattle.f77_store.specs.Names.{Name, name_eq}
 use Rattle.f77_store.specs.Layouts.{layout_of}
 use Rattle.f77_store.specs.Roles as roles
-use Rattle.f77_running.specs.Program.{Routine}
-use Rattle.f77_running.specs.Statements.{turn}
-use Rattle.f77_running.specs.Units.{entry, cleared, entered, beginning, run_unit, at_sites, meaning, named, fresh_world}
-use Rattle.f77_running.specs.Source.{meant_in, dummy_arrays_from, is_main, main_of, routine, with_main, Source}
+use Rattle.f77_semantics.specs.Program.{Routine}
+use Rattle.f77_semantics.specs.Statements.{turn}
+use Rattle.f77_semantics.specs.Units.{entry, cleared, entered, beginning, run_unit, at_sites, meaning, named, fresh_world}
+use Rattle.f77_semantics.specs.Source.{meant_in, dummy_arrays_from, is_main, main_of, routine, with_main, Source}
 use Rattle.run_laws.specs.Laws.{IsGoing, IsFrom, HasNoDummies}
 use Rattle.run_laws.proofs.Left.{left_of, IsSpent, Tells, meaning_falls, meaning_tells}
 

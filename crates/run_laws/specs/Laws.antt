@@ -6,7 +6,7 @@ use Rattle.f77_tree.specs.declared.form.Form.{Form, out-Form}
 use Rattle.f77_tree.specs.declared.form.Form.TheOpen.{Form-F}
 use Rattle.f77_tree.specs.declared.unit.Unit.{Unit as SourceUnit}
 use Rattle.f77_store.specs.Names.{Name}
-use Rattle.f77_running.specs.Source.{main_of, Source}
+use Rattle.f77_semantics.specs.Source.{main_of, Source}
 
 -- ---- steps
 

@@ -5,11 +5,11 @@ use Rattle.f77_tree.specs.declared.unit.Unit.{Unit as SourceUnit}
 use Rattle.fixed_form.specs.declared.reader.UnitText.{UnitText}
 use Rattle.f77_store.specs.Names.{Name, Told, told}
 use Rattle.f77_parse.specs.Statements.{EndsUnit}
-use Rattle.f77_sound.specs.Sites.{Each}
+use Rattle.sound_units.specs.Sites.{Each}
 use Rattle.rn_draft.specs.Accepted.{IsAccepted, Accepted}
 use Rattle.rn_draft.specs.Drafts.{named, drafted}
 use Rattle.sound_texts.specs.Laws.{AreSound, DraftsDiffer, TreesAreTexts}
-use Rattle.f77_sound.proofs.Tables.{some_is, each_at, told_each}
+use Rattle.sound_units.proofs.Tables.{some_is, each_at, told_each}
 use Rattle.sound_texts.proofs.Names.{distinct_all, apart}
 
 abbrev entries : List UnitText → Told UnitText

@@ -9,8 +9,8 @@ use Rattle.f77_tree.specs.declared.expr.Op.{Op}
 use Rattle.f77_expr.specs.declared.token.Rule.{Rule}
 use Rattle.f77_expr.specs.Kinds.{Tokens}
 use Rattle.f77_expr.specs.Grammar.{Reads, chain, asserted, denied, alone, compared, negated, kept, single, power, number, yes, no, name, applied, paren, Joins, stop, go, Lists, none, some, Items, last, more}
-use Rattle.f77_sound.specs.Texts.{text_step, has_text}
-use Rattle.f77_sound.proofs.Lists.{any-map}
+use Rattle.sound_units.specs.Texts.{text_step, has_text}
+use Rattle.sound_units.proofs.Lists.{any-map}
 
 pub neither : (a b : Bool) → a ≡ false → b ≡ false → (a || b) ≡ false
 neither a b h k = ap (λ x. x || b) h ∙ k

@@ -23,8 +23,8 @@ use Rattle.f77_forms.specs.InputOutput.{IsItem, value as by_value, literal as by
 use Rattle.f77_forms.specs.Listed.{Listed, last, more}
 use Rattle.f77_forms.specs.Parts.{IsVariable, plain as by_name, element}
 use Rattle.f77_forms.specs.Transfer as x
-use Rattle.f77_sound.specs.Texts.{text_step, has_text, item_has, item_has_text, optional_text, form_has_text, is_action, guards_action}
-use Rattle.f77_sound.proofs.Lists.{or_left, or_right, any-map}
+use Rattle.sound_units.specs.Texts.{text_step, has_text, item_has, item_has_text, optional_text, form_has_text, is_action, guards_action}
+use Rattle.sound_units.proofs.Lists.{or_left, or_right, any-map}
 use Rattle.sound_texts.proofs.Expressions.{neither, text_Apply, text_Scalar, none_read}
 
 pub record Textual (form : Form) : Type 0 where

@@ -21,10 +21,10 @@ use Rattle.f77_parse.specs.Order.{in_main}
 use Rattle.f77_parse.specs.Parsed.{IsStatement, IsUnit, IsFaultless}
 use Rattle.f77_parse.specs.Statements.{EndsUnit, HasHead, headed, headless, class_of, has_return, return_step as parsed_step}
 use Rattle.f77_parse.specs.UnitFaults.{order, dummies}
-use Rattle.f77_running.specs.Source.{is_main}
-use Rattle.f77_sound.specs.Accepted.{IsTextOf}
-use Rattle.f77_sound.specs.Texts.{returns_in, return_step}
-use Rattle.f77_sound.proofs.Tables.{some_is}
+use Rattle.f77_semantics.specs.Source.{is_main}
+use Rattle.sound_units.specs.Accepted.{IsTextOf}
+use Rattle.sound_units.specs.Texts.{returns_in, return_step}
+use Rattle.sound_units.proofs.Tables.{some_is}
 use Rattle.sound_texts.proofs.Forms.{textual}
 
 -- ---- RETURN, as the order of statements has it and as the meaning has it

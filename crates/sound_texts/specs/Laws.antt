@@ -6,8 +6,8 @@ use Rattle.fixed_form.specs.Reading.{Reads}
 use Rattle.f77_parse.specs.Parsed.{IsUnit, IsFaultless}
 use Rattle.f77_parse.specs.Statements.{EndsUnit}
 use Rattle.run_model.specs.Runs.{Wrong}
-use Rattle.f77_running.specs.Source.{Source}
-use Rattle.f77_sound.specs.Accepted.{IsTextOf, AllAreGood, NamesDiffer}
+use Rattle.f77_semantics.specs.Source.{Source}
+use Rattle.sound_units.specs.Accepted.{IsTextOf, AllAreGood, NamesDiffer}
 use Rattle.prog_check.specs.ProgramFaults as program
 use Rattle.rn_draft.specs.Accepted.{Accepted}
 use Rattle.rn_draft.specs.Drafts.{drafted}

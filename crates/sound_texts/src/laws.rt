@@ -2,7 +2,7 @@
 ghost use Rattle.sound_texts.specs.Laws.{AcceptedAreNeverStuck, AcceptedAreSound, DraftsDiffer, TreesAreTexts};
 
 use f77_parse::{end_law, read_law};
-use f77_sound::programs_law;
+use sound_units::programs_law;
 
 /// The tree of a unit that was read and has no fault of its own is one that a text gives: END is its last statement, literals of
 /// characters are items of PRINT, RETURN stands in subprograms, a logical IF has an action, and there are at most 63 dummy arguments.

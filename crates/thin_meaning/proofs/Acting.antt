@@ -9,12 +9,12 @@ use Rattle.f77_tree.specs.declared.unit.Ty.TheVariants as types
 use Rattle.f77_tree.specs.declared.unit.Value.{Value}
 use Rattle.f77_tree.specs.declared.unit.Value.TheVariants as values
 use Rattle.f77_flow.specs.Graph.{Point, At}
-use Rattle.f77_running.specs.Program as program
-use Rattle.f77_running.specs.Program.{Term, Terms, Routine, Own}
-use Rattle.f77_running.specs.Values.{seen, operated}
-use Rattle.f77_running.specs.Expressions.{Frame, typed, scalar, store}
-use Rattle.f77_running.specs.Expressions as whole
-use Rattle.f77_running.specs.Statements.{Here, written, items, say_all, say_record, to, perform}
+use Rattle.f77_semantics.specs.Program as program
+use Rattle.f77_semantics.specs.Program.{Term, Terms, Routine, Own}
+use Rattle.f77_semantics.specs.Values.{seen, operated}
+use Rattle.f77_semantics.specs.Expressions.{Frame, typed, scalar, store}
+use Rattle.f77_semantics.specs.Expressions as whole
+use Rattle.f77_semantics.specs.Statements.{Here, written, items, say_all, say_record, to, perform}
 use Rattle.thin_form.specs.declared.statement.Sign.{Sign}
 use Rattle.thin_form.specs.declared.statement.Sign.TheVariants.{Plus, Minus}
 use Rattle.thin_form.specs.Forms.{op_of}

@@ -3,8 +3,8 @@ use Rattle.std.specs.Prelude.{List, [], ◌∷◌, fold}
 use Rattle.run_model.specs.Storage.{Name}
 use Rattle.f77_tree.specs.declared.unit.Ty.TheVariants as types
 use Rattle.f77_tree.specs.declared.unit.Value.TheVariants as values
-use Rattle.f77_running.specs.Program as program
-use Rattle.f77_running.specs.Program.{Term, Terms, Statement}
+use Rattle.f77_semantics.specs.Program as program
+use Rattle.f77_semantics.specs.Program.{Term, Terms, Statement}
 use Rattle.thin_form.specs.Forms.{op_of}
 use Rattle.thin_form.specs.declared.statement.Addend.{Addend}
 use Rattle.thin_form.specs.declared.statement.Term.{Term as ThinTerm}

@@ -17,12 +17,12 @@ use Rattle.f77_store.specs.declared.roles.Facts.{Facts}
 use Rattle.f77_store.specs.Names.{is_among, with_name, distinct}
 use Rattle.f77_store.specs.Occurrences.{in_statement}
 use Rattle.f77_store.specs.Layouts.{callees_with}
-use Rattle.f77_running.specs.Program as program
-use Rattle.f77_running.specs.Program.{Term, Own}
-use Rattle.f77_running.specs.Terms.{Meant, Resolved, term_from, sites_in, terms_of, plain, bare, resolved}
-use Rattle.f77_running.specs.Terms as names
-use Rattle.f77_running.specs.Resolve.{statement_of, statements_from}
-use Rattle.f77_running.proofs.Trees.{layer}
+use Rattle.f77_semantics.specs.Program as program
+use Rattle.f77_semantics.specs.Program.{Term, Own}
+use Rattle.f77_semantics.specs.Terms.{Meant, Resolved, term_from, sites_in, terms_of, plain, bare, resolved}
+use Rattle.f77_semantics.specs.Terms as names
+use Rattle.f77_semantics.specs.Resolve.{statement_of, statements_from}
+use Rattle.f77_semantics.proofs.Trees.{layer}
 use Rattle.thin_form.specs.declared.statement.Term.{Term as ThinTerm}
 use Rattle.thin_form.specs.declared.statement.Addend.{Addend}
 use Rattle.thin_form.specs.declared.statement.Item.{Item}

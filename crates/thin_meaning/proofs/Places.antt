@@ -19,9 +19,9 @@ use Rattle.f77_store.specs.Blocks.{total, place_at, placed, places, commons}
 use Rattle.f77_store.specs.Declarations.{declarations}
 use Rattle.f77_store.specs.Roles.{facts, known}
 use Rattle.f77_store.specs.Layouts.{from_of, locals, own_slot, slot_of, sizes, slots_with, local_size_with, slots, local_size}
-use Rattle.f77_running.specs.Program.{Own}
-use Rattle.f77_running.specs.Terms.{Variable, meant_as}
-use Rattle.f77_running.specs.Source.{slot_named, meant_in}
+use Rattle.f77_semantics.specs.Program.{Own}
+use Rattle.f77_semantics.specs.Terms.{Variable, meant_as}
+use Rattle.f77_semantics.specs.Source.{slot_named, meant_in}
 use Rattle.thin_form.specs.declared.statement.Statement.{Statement}
 use Rattle.thin_code.specs.Layout.{statement_names, names_of, offset_of}
 use Rattle.thin_meaning.specs.Units.{IsThinUnit}

@@ -6,11 +6,11 @@ use Rattle.run_model.specs.Acts.{World, Outcome, then_do, Answer, Handler, play,
 use Rattle.run_model.specs.Turns.{After, Again, Result, ticked, follow, turns, run_from}
 use Rattle.run_model.specs.Runs.{answer}
 use Rattle.f77_flow.specs.Graph.{At}
-use Rattle.f77_running.specs.Values.{stored}
-use Rattle.f77_running.specs.Program.{Routine, NoStatement, DummyArray}
-use Rattle.f77_running.specs.Expressions.{Frame}
-use Rattle.f77_running.specs.Statements.{Here, perform, turn_at, turn}
-use Rattle.f77_running.specs.Units.{entry, entered, is_cleared, cleared, beginning, run_unit, at_sites, meaning, given, given_in, named, fresh_world, running}
+use Rattle.f77_semantics.specs.Values.{stored}
+use Rattle.f77_semantics.specs.Program.{Routine, NoStatement, DummyArray}
+use Rattle.f77_semantics.specs.Expressions.{Frame}
+use Rattle.f77_semantics.specs.Statements.{Here, perform, turn_at, turn}
+use Rattle.f77_semantics.specs.Units.{entry, entered, is_cleared, cleared, beginning, run_unit, at_sites, meaning, given, given_in, named, fresh_world, running}
 use Rattle.thin_form.specs.declared.statement.Statement.{Statement as ThinStatement}
 use Rattle.thin_code.specs.Layout.{names_of}
 use Rattle.thin_code.specs.Meaning as thin

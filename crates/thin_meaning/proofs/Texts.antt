@@ -27,7 +27,7 @@ use Rattle.thin_form.specs.declared.statement.Statement.{Statement}
 use Rattle.thin_form.specs.Forms.{IsStatementOf, assign, print, end}
 use Rattle.thin_text.specs.Thin.{standing, IsThinLine}
 use Rattle.thin_code.specs.Layout.{names_of}
-use Rattle.f77_running.specs.Source as whole
+use Rattle.f77_semantics.specs.Source as whole
 use Rattle.thin_meaning.specs.Units.{IsThinStmt, IsThinUnit}
 use Rattle.thin_meaning.specs.Laws.{HasThinUnit, ThinTextsHaveUnits, UnitsRunAlike, TextsRunAlike}
 use Rattle.thin_meaning.proofs.Places.{size_of_unit}

@@ -5,11 +5,11 @@ use Rattle.f77_tree.specs.declared.unit.Unit.{Unit as SourceUnit}
 use Rattle.run_model.specs.Storage.{Name}
 use Rattle.f77_store.specs.Roles.{facts}
 use Rattle.f77_store.specs.Layouts.{slots}
-use Rattle.f77_running.specs.Terms.{Meant}
-use Rattle.f77_running.specs.Resolve.{statements_from}
-use Rattle.f77_running.specs.Data.{form_gives, initial}
-use Rattle.f77_running.specs.Source as whole
-use Rattle.f77_running.specs.Source.{meant_in, dummy_arrays_from, is_main, routine, main_of, with_main}
+use Rattle.f77_semantics.specs.Terms.{Meant}
+use Rattle.f77_semantics.specs.Resolve.{statements_from}
+use Rattle.f77_semantics.specs.Data.{form_gives, initial}
+use Rattle.f77_semantics.specs.Source as whole
+use Rattle.f77_semantics.specs.Source.{meant_in, dummy_arrays_from, is_main, routine, main_of, with_main}
 use Rattle.thin_form.specs.declared.statement.Statement.{Statement}
 use Rattle.thin_code.specs.Layout.{statement_names, names_of}
 use Rattle.thin_code.specs.Meaning as thin

@@ -2,7 +2,7 @@
 use Rattle.std.specs.Prelude.{◌≡◌, ℕ, ℤ, ◌≤◌, List, [], ◌∷◌, length}
 use Rattle.f77_tree.specs.declared.unit.Unit.{Unit as SourceUnit}
 use Rattle.fixed_form.specs.declared.reader.UnitText.{UnitText}
-use Rattle.f77_running.specs.Source as whole
+use Rattle.f77_semantics.specs.Source as whole
 use Rattle.rn_draft.specs.Accepted.{Accepted}
 use Rattle.rn_draft.specs.Drafts.{drafted}
 use Rattle.thin_form.specs.declared.statement.Statement.{Statement}

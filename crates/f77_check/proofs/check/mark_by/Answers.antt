@@ -1,7 +1,7 @@
 use Rattle.std.proofs.Common.{List, subst}
 use Rattle.f77_tree.specs.declared.unit.Stmt.{Stmt}
 use Rattle.fault_marks.specs.Earliest.{Earliest}
-use Rattle.f77_jumps.specs.Faults.{JumpFaults}
+use Rattle.check_jumps.specs.Faults.{JumpFaults}
 use Rattle.f77_check.proofs.Checked.{found}
 use Rattle.f77_check.proofs.check.mark_by.Goals as goal
 

@@ -1,4 +1,4 @@
-use Rattle.f77_running.specs.Source.{Source}
+use Rattle.f77_semantics.specs.Source.{Source}
 use Rattle.f77_meaning.proofs.Telling.{told_run, told_all, told_front}
 use Rattle.f77_meaning.proofs.interpreter.interpret.Goals as goal
 

@@ -1,6 +1,6 @@
 use Rattle.std.proofs.Common.{◌≡◌, ℕ, ◌||◌, drop, map}
-use Rattle.f77_cells.specs.Rows.{is_marked}
-use Rattle.f77_routine.specs.Routines.{dummy_of}
+use Rattle.interp_cells.specs.Rows.{is_marked}
+use Rattle.interp_lower.specs.Routines.{dummy_of}
 use Rattle.f77_meaning.specs.Marks.{is_dimensioned}
 use Rattle.f77_meaning.proofs.marks.array_marks.Given as goal
 

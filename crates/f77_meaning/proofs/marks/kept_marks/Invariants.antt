@@ -1,7 +1,7 @@
 use Rattle.std.proofs.Common.{◌≡◌, ℕ, ◌||◌, drop, map}
-use Rattle.f77_cells.specs.Rows.{is_marked}
-use Rattle.f77_running.specs.Units.{is_kept}
-use Rattle.f77_routine.specs.Cells.{kept_of}
+use Rattle.interp_cells.specs.Rows.{is_marked}
+use Rattle.f77_semantics.specs.Units.{is_kept}
+use Rattle.interp_lower.specs.Cells.{kept_of}
 use Rattle.f77_meaning.proofs.marks.kept_marks.Given as goal
 
 abbrev pub invariant-loop-cells : goal.invariant-loop-cells

@@ -1,5 +1,5 @@
 use Rattle.std.proofs.Common.{◌≡◌, ℕ, ◌≤◌, ◌&&◌, ◌||◌, nat_le, nat_lt, length}
-use Rattle.f77_cells.specs.Rows.{is_marked}
+use Rattle.interp_cells.specs.Rows.{is_marked}
 use Rattle.f77_meaning.proofs.marks.mark.Given as goal
 
 abbrev pub invariant-loop-k : goal.invariant-loop-k

@@ -1,5 +1,5 @@
 use Rattle.std.proofs.Common.{◌≡◌, drop}
-use Rattle.f77_running.specs.Source.{main_of}
+use Rattle.f77_semantics.specs.Source.{main_of}
 use Rattle.f77_meaning.proofs.places.main_place.Given as goal
 
 abbrev pub invariant-loop-k : goal.invariant-loop-k

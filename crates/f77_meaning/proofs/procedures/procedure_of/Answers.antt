@@ -1,7 +1,7 @@
 use Rattle.std.proofs.Common.{sym, ap, ◌∙◌, length, List}
 use Rattle.f77_tree.specs.declared.unit.Stmt.{Stmt}
 use Rattle.f77_flow.specs.Blocks as blocks
-use Rattle.f77_running.specs.Source.{routine}
+use Rattle.f77_semantics.specs.Source.{routine}
 use Rattle.f77_meaning.proofs.Made.{lines_are, flows}
 use Rattle.f77_meaning.proofs.procedures.procedure_of.Goals as goal
 

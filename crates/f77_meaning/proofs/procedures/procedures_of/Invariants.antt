@@ -1,6 +1,6 @@
 use Rattle.std.proofs.Common.{map, take}
-use Rattle.f77_running.specs.Source.{routine}
-use Rattle.f77_calls.specs.Procedures.{AreUnits}
+use Rattle.f77_semantics.specs.Source.{routine}
+use Rattle.interp_calls.specs.Procedures.{AreUnits}
 use Rattle.f77_meaning.specs.Places.{find_of}
 use Rattle.f77_meaning.proofs.procedures.procedures_of.Given as goal
 

@@ -1,7 +1,7 @@
 use Rattle.std.proofs.Common.{[], subst, sym, ◌∙◌}
 use Rattle.std.proofs.KnownBytes.{Appends-nil}
-use Rattle.f77_running.specs.Source.{Source}
-use Rattle.f77_steps.specs.Worlds.{world_of}
+use Rattle.f77_semantics.specs.Source.{Source}
+use Rattle.interp_steps.specs.Worlds.{world_of}
 use Rattle.f77_meaning.specs.Answers.{IsTold}
 use Rattle.f77_meaning.proofs.Placing.{there}
 use Rattle.f77_meaning.proofs.Telling.{ended, broken_off, main_outcome, no_main, runs_so}

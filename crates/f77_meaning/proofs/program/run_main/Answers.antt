@@ -2,12 +2,12 @@ use Rattle.std.proofs.Common.{◌≡◌, ℕ, List, [], Some, map, slice_get, ge
 use Rattle.std.proofs.lemmas.Option.{get_or_from_slice_get}
 use Rattle.run_model.specs.Acts.{World}
 use Rattle.f77_tree.specs.declared.unit.Unit.{Unit as SourceUnit}
-use Rattle.f77_calls.specs.declared.procedure.Procedure.{Procedure}
-use Rattle.f77_calls.specs.Procedures.{AreUnits, Represents}
-use Rattle.f77_calls.specs.Sending.{Sends}
-use Rattle.f77_running.specs.Source.{routine}
-use Rattle.f77_running.specs.Units.{Program, meaning, named}
-use Rattle.f77_steps.specs.Worlds.{world_of}
+use Rattle.interp_calls.specs.declared.procedure.Procedure.{Procedure}
+use Rattle.interp_calls.specs.Procedures.{AreUnits, Represents}
+use Rattle.interp_calls.specs.Sending.{Sends}
+use Rattle.f77_semantics.specs.Source.{routine}
+use Rattle.f77_semantics.specs.Units.{Program, meaning, named}
+use Rattle.interp_steps.specs.Worlds.{world_of}
 use Rattle.f77_store.specs.Names.{Name}
 use Rattle.f77_meaning.specs.Places.{find_of}
 use Rattle.f77_meaning.proofs.Placing.{found_at, mapped_at}

@@ -1,7 +1,7 @@
 use Rattle.std.proofs.Common.{◌≡◌, Err, rules}
-use Rattle.f77_steps.specs.declared.stop.Stop.TheVariants.{Spent, Ended, Undefined, OutOfMemory}
-use Rattle.f77_steps.specs.Worlds.{world_of}
-use Rattle.f77_calls.specs.declared.halt.Halt.TheVariants.{Stop, WriteFault}
+use Rattle.interp_steps.specs.declared.stop.Stop.TheVariants.{Spent, Ended, Undefined, OutOfMemory}
+use Rattle.interp_steps.specs.Worlds.{world_of}
+use Rattle.interp_calls.specs.declared.halt.Halt.TheVariants.{Stop, WriteFault}
 use Rattle.f77_meaning.specs.declared.runs.InterpretRefused.TheVariants as refused
 use Rattle.f77_meaning.proofs.Telling.{tells_going, tells_ended, tells_undefined, tells_fault, tells_wanting}
 use Rattle.f77_meaning.proofs.program.told.Goals as goal

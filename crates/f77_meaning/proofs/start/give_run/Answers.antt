@@ -1,6 +1,6 @@
 use Rattle.std.proofs.Common.{arith}
-use Rattle.f77_cells.specs.Cells.{cells_of}
-use Rattle.f77_code.specs.Denoted.{base_of}
+use Rattle.interp_cells.specs.Cells.{cells_of}
+use Rattle.interp_code.specs.Denoted.{base_of}
 use Rattle.f77_meaning.proofs.Giving.{one_unit, no_unit_left}
 use Rattle.f77_meaning.proofs.start.give_run.Goals as goal
 

@@ -1,7 +1,7 @@
 use Rattle.std.proofs.Common.{◌≡◌}
-use Rattle.f77_cells.specs.Cells.{cells_of}
-use Rattle.f77_code.specs.Denoted.{base_of}
-use Rattle.f77_routine.specs.Runs.{given_from, units_of}
+use Rattle.interp_cells.specs.Cells.{cells_of}
+use Rattle.interp_code.specs.Denoted.{base_of}
+use Rattle.interp_lower.specs.Runs.{given_from, units_of}
 use Rattle.f77_meaning.specs.Given.{given_over}
 use Rattle.f77_meaning.proofs.start.give_run.Given as goal
 

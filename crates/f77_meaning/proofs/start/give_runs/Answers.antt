@@ -1,7 +1,7 @@
 use Rattle.std.proofs.Common.{List, ap, ◌∙◌, flat_map, arith}
-use Rattle.f77_cells.specs.Cells.{cells_of}
-use Rattle.f77_routine.specs.declared.runs.Run.{Run}
-use Rattle.f77_routine.specs.Runs.{units_of}
+use Rattle.interp_cells.specs.Cells.{cells_of}
+use Rattle.interp_lower.specs.declared.runs.Run.{Run}
+use Rattle.interp_lower.specs.Runs.{units_of}
 use Rattle.f77_meaning.specs.Given.{given_over}
 use Rattle.f77_meaning.proofs.Giving.{one_run, no_run_left}
 use Rattle.f77_meaning.proofs.start.give_runs.Goals as goal

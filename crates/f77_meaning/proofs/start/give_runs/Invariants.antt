@@ -1,6 +1,6 @@
 use Rattle.std.proofs.Common.{◌≡◌, flat_map, take}
-use Rattle.f77_cells.specs.Cells.{cells_of}
-use Rattle.f77_routine.specs.Runs.{units_of}
+use Rattle.interp_cells.specs.Cells.{cells_of}
+use Rattle.interp_lower.specs.Runs.{units_of}
 use Rattle.f77_meaning.specs.Given.{given_over}
 use Rattle.f77_meaning.proofs.start.give_runs.Given as goal
 

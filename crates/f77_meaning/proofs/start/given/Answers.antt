@@ -1,5 +1,5 @@
 use Rattle.std.proofs.Common.{◌-◌, get_or, refl, arith}
-use Rattle.f77_cells.specs.Cells.{cells_of}
+use Rattle.interp_cells.specs.Cells.{cells_of}
 use Rattle.f77_meaning.proofs.Giving.{none_given, one_procedure}
 use Rattle.f77_meaning.proofs.start.given.Goals as goal
 

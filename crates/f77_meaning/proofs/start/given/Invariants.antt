@@ -1,5 +1,5 @@
 use Rattle.std.proofs.Common.{◌≡◌, None, take}
-use Rattle.f77_cells.specs.Cells.{cells_of}
+use Rattle.interp_cells.specs.Cells.{cells_of}
 use Rattle.f77_meaning.specs.Given.{given_by}
 use Rattle.f77_meaning.proofs.start.given.Given as goal
 

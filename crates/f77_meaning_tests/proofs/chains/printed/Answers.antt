@@ -1,5 +1,5 @@
 use Rattle.std.proofs.Common.{sym, subst}
-use Rattle.f77_sound.specs.Accepted.{AllAreGood}
+use Rattle.sound_units.specs.Accepted.{AllAreGood}
 use Rattle.f77_meaning_tests.proofs.chains.printed.Goals as goal
 
 pub interpret-requires-clause-good : goal.interpret-requires-clause-good

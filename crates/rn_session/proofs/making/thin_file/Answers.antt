@@ -3,7 +3,7 @@ use Rattle.std.specs.Prelude.{sum_by}
 use Rattle.thin_form.specs.declared.statement.Statement.{Statement}
 use Rattle.thin_form.specs.Programs.{size_of}
 use Rattle.run_model.specs.Runs.{Run}
-use Rattle.f77_running.specs.Source as whole
+use Rattle.f77_semantics.specs.Source as whole
 use Rattle.thin_code.specs.Meaning.{Source}
 use Rattle.thin_code.specs.Sizes.{steps_each, words_each}
 use Rattle.thin_code.specs.Agreement.{Agrees, EndsWithin, IsOrderly}

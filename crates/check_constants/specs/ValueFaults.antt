@@ -1,0 +1,38 @@
+-- The faults of a unit in its constant expressions and in DATA.
+use Rattle.std.specs.Prelude.{ℕ}
+use Rattle.f77_tree.specs.declared.unit.Unit.{Unit}
+use Rattle.f77_store.specs.declared.areas.Place.{Place}
+use Rattle.f77_store.specs.Names.{Told}
+use Rattle.f77_store.specs.Blocks.{commons}
+use Rattle.f77_store.specs.Declarations.{declarations}
+use Rattle.f77_store.specs.Layouts.{common_places}
+use Rattle.f77_store.specs.Roles.{facts}
+use Rattle.fault_marks.specs.declared.marks.Mark.{Mark}
+use Rattle.fault_marks.specs.Places.{ShowsAt}
+use Rattle.check_constants.specs.Defined.{nothing, with_statement}
+use Rattle.check_constants.specs.DataFaults.{statement_wrong}
+use Rattle.check_constants.specs.DataTwice.{past_with, statement_repeats, beginning}
+use Rattle.check_constants.specs.Measures.{measures}
+use Rattle.check_constants.specs.Needed.{statement_lacks}
+use Rattle.check_constants.specs.Passes.{HoldsAt}
+
+-- where the names in COMMON stand
+abbrev pub in_commons : Unit → Told Place
+in_commons u = common_places (facts u) (commons (declarations u.statements))
+
+-- A constant expression is needed at statement k, and there is none.
+abbrev pub NeedsConstant : Unit → ℕ → Type 0
+NeedsConstant u k = HoldsAt with_statement (statement_lacks (facts u) (in_commons u)) nothing u.statements k
+
+-- Statement k of DATA isn't right by itself.
+abbrev pub DataWrong : Unit → ℕ → Type 0
+DataWrong u k = HoldsAt with_statement (statement_wrong u.kind (facts u) (in_commons u) (measures u.statements)) nothing u.statements k
+
+-- Statement k of DATA initialises a unit that was initialised before, or twice itself.
+abbrev pub InitialisesTwice : Unit → ℕ → Type 0
+InitialisesTwice u k = HoldsAt past_with statement_repeats beginning u.statements k
+
+pub data ValueFaults (u : Unit) (mark : Mark) : Type 0 where
+  needs_constant : ShowsAt u.statements (NeedsConstant u) 22 0 mark → ValueFaults u mark
+  data_wrong : ShowsAt u.statements (DataWrong u) 23 0 mark → ValueFaults u mark
+  initialises_twice : ShowsAt u.statements (InitialisesTwice u) 23 0 mark → ValueFaults u mark

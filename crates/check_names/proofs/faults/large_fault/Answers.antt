@@ -1,0 +1,6 @@
+use Rattle.check_names.specs.LargeArrays.{large_at}
+use Rattle.check_names.proofs.Passes.{by_test}
+use Rattle.check_names.proofs.faults.large_fault.Goals as goal
+
+pub returns : goal.returns
+returns c = by_test c.args.unit.now.statements _ (large_at c.args.facts.now.attributes c.args.unit.now) _ _ _ _ _ c.as_slice.ensures c.as_slice-2.ensures c.in_ok-flags.ensures c.earliest_flagged.ensures.earliest

@@ -1,0 +1,150 @@
+//! Exponents.
+ghost use Rattle.std.specs.Prelude.{◌≡◌};
+ghost use Rattle.std.specs.List.{list_any};
+ghost use Rattle.f77_store.specs.Arithmetic as m;
+ghost use Rattle.f77_store.specs.Constants as c;
+ghost use Rattle.check_types.specs.Exponents as x;
+
+use f77_store::{Table, deny, keep, negate, operate};
+use f77_tree::{Expr, List, Op, Value};
+
+/// The value of an expression, if it is constant, and whether an exponent in it is no constant from 0 to 62.
+#[derive(Clone, Copy, Debug, Drop)]
+pub struct Reckoned {
+    pub value: Option<Value>,
+    pub wrong: bool,
+}
+
+fn sound(value: Option<Value>) -> Reckoned
+    ensures { result ≡ x.sound value }
+{
+    Reckoned {
+        value,
+        wrong: false,
+    }
+}
+
+fn is_exponent(value: Option<Value>) -> bool
+    ensures { result ≡ x.is_exponent value }
+{
+    match value {
+        Some(Value::Integer(n)) => n >= 0 && n <= 62,
+        _ => false,
+    }
+}
+
+fn is_no_exponent(op: Op, value: Option<Value>) -> bool
+    ensures { result ≡ x.is_no_exponent op value }
+{
+    match op {
+        Op::Pow => !is_exponent(value),
+        _ => false,
+    }
+}
+
+fn negated(value: Option<Value>) -> Option<Value>
+    ensures { result ≡ c.applied m.negated value }
+{
+    match value {
+        Some(value) => negate(value),
+        None => None,
+    }
+}
+
+fn kept(value: Option<Value>) -> Option<Value>
+    ensures { result ≡ c.applied m.kept value }
+{
+    match value {
+        Some(value) => keep(value),
+        None => None,
+    }
+}
+
+fn denied(value: Option<Value>) -> Option<Value>
+    ensures { result ≡ c.applied m.denied value }
+{
+    match value {
+        Some(value) => deny(value),
+        None => None,
+    }
+}
+
+fn operated(op: Op, left: Option<Value>, right: Option<Value>) -> Option<Value>
+    ensures { result ≡ c.operated op left right }
+{
+    match (left, right) {
+        (Some(x), Some(y)) => operate(op, x, y),
+        _ => None,
+    }
+}
+
+fn between(op: Op, a: Reckoned, b: Reckoned) -> Reckoned
+    ensures { result ≡ x.reckoned_between op a b }
+{
+    Reckoned {
+        value: operated(op, a.value, b.value),
+        wrong: a.wrong | (b.wrong | is_no_exponent(op, b.value)),
+    }
+}
+
+/// The value of an expression under these named constants, if it is constant, and whether an exponent in it is wrong.
+#[tactic(auto, using(crate::proofs::Members::members))]
+#[cycle(exponents)]
+pub fn reckon(constants: &Table<Value>, e: &Expr) -> Reckoned
+    ensures { result ≡ x.reckoned constants.now e.now }
+{
+    match e {
+        Expr::Int(n) => sound(Some(Value::Integer(*n))),
+        Expr::Truth(b) => sound(Some(Value::Logical(*b))),
+        Expr::Text(_) => sound(None),
+        Expr::Scalar(name) => sound(constants.get(name).copied()),
+        Expr::Apply(_, list) => Reckoned {
+            value: None,
+            wrong: have_wrong_exponents(constants, list),
+        },
+        Expr::Paren(inner) => reckon(constants, inner.get()),
+        Expr::Neg(inner) => {
+            let inner = reckon(constants, inner.get());
+            Reckoned {
+                value: negated(inner.value),
+                wrong: inner.wrong,
+            }
+        }
+        Expr::Plus(inner) => {
+            let inner = reckon(constants, inner.get());
+            Reckoned {
+                value: kept(inner.value),
+                wrong: inner.wrong,
+            }
+        }
+        Expr::Not(inner) => {
+            let inner = reckon(constants, inner.get());
+            Reckoned {
+                value: denied(inner.value),
+                wrong: inner.wrong,
+            }
+        }
+        Expr::Binary(op, a, b) => {
+            between(*op, reckon(constants, a.get()), reckon(constants, b.get()))
+        }
+    }
+}
+
+#[cycle(exponents)]
+fn have_wrong_exponents(constants: &Table<Value>, list: &List<Expr>) -> bool
+    ensures { result ≡ list_any (x.has_wrong_exponent constants.now) list.now }
+{
+    for e in list.as_slice() {
+        if reckon(constants, e).wrong {
+            return true;
+        }
+    }
+    false
+}
+
+/// Whether an exponent in the expression is wrong.
+pub fn has_wrong_exponent(constants: &Table<Value>, e: &Expr) -> bool
+    ensures { result ≡ x.has_wrong_exponent constants.now e.now }
+{
+    reckon(constants, e).wrong
+}

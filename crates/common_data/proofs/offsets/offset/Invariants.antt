@@ -1,9 +1,0 @@
-use Rattle.std.proofs.Common.{◌≡◌, Some, drop}
-use Rattle.std.specs.Option.{option_map}
-use Rattle.f77_store.specs.Names.{saturated}
-use Rattle.common_data.specs.Storage.{offset}
-use Rattle.common_data.proofs.offsets.offset.Given as goal
-
--- what is found is that of the subscripts from the last one down to this one
-abbrev pub invariant-loop-k : goal.invariant-loop-k
-invariant-loop-k l = Some l.found ≡ option_map saturated (offset l.all l.named (drop l.k l.bounds) (drop l.k l.subscripts))

@@ -1,9 +1,0 @@
-use Rattle.f77_running.specs.Units.{extents}
-use Rattle.f77_calls.proofs.Gathering.{all_of, none_of}
-use Rattle.f77_calls.proofs.bounds.extents_of.Goals as goal
-
-pub returns-in-Ok : goal.returns-in-Ok
-returns-in-Ok c = all_of (extents c.args.pairs.now) c.new-all.result c.new-all.ensures _ c.in-Ok.ensures
-
-pub returns-in-Err : goal.returns-in-Err
-returns-in-Err c = none_of (extents c.args.pairs.now) c.new-all.result c.new-all.ensures c.in-Err.stop c.in-Err.ensures

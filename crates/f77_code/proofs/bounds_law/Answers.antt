@@ -1,5 +1,0 @@
-use Rattle.f77_code.proofs.Entries.{dimensions_do}
-use Rattle.f77_code.proofs.bounds_law.Goals as goal
-
-pub returns : goal.returns
-returns c = dimensions_do

@@ -1,7 +1,0 @@
-use Rattle.f77_flow.specs.Checks.{RepeatsLabel}
-use Rattle.fault_marks.proofs.Deciding.{decided}
-use Rattle.f77_jumps.proofs.Flags.{flags_decide}
-use Rattle.f77_jumps.proofs.faults.repeated_fault.Goals as goal
-
-pub returns : goal.returns
-returns c = decided c.args.statements.now (RepeatsLabel c.args.statements.now) c.in_ok-flags.flags 15 0 _ (flags_decide c.args.statements.now (RepeatsLabel c.args.statements.now) c.in_ok-flags.flags (c.in_ok-flags.ensures {u = tt})) (rw c.as_slice.ensures at c.earliest_flagged.ensures.earliest)

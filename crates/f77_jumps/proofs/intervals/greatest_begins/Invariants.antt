@@ -1,5 +1,0 @@
-use Rattle.f77_jumps.specs.Intervals.{AreGreatestBegins}
-use Rattle.f77_jumps.proofs.intervals.greatest_begins.Given as goal
-
-abbrev pub invariant-loop-j : goal.invariant-loop-j
-invariant-loop-j l = AreGreatestBegins l.ends l.j l.begins

@@ -1,5 +1,0 @@
-use Rattle.f77_jumps.specs.Astray.{AreTold}
-use Rattle.f77_jumps.proofs.jumps.astray.Given as goal
-
-abbrev pub invariant-loop-k : goal.invariant-loop-k
-invariant-loop-k l = AreTold l.nests.parts.control.statements.now l.k l.flags

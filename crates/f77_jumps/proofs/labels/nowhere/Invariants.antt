@@ -1,6 +1,0 @@
-use Rattle.f77_flow.specs.Checks.{JumpsNowhere}
-use Rattle.f77_jumps.specs.Telling.{AreFlags}
-use Rattle.f77_jumps.proofs.labels.nowhere.Given as goal
-
-abbrev pub invariant-loop-k : goal.invariant-loop-k
-invariant-loop-k l = AreFlags (JumpsNowhere l.control.statements.now) l.k l.flags

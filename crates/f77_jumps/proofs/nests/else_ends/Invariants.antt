@@ -1,7 +1,0 @@
-use Rattle.f77_flow.specs.Blocks.{end_if}
-use Rattle.f77_jumps.specs.Telling.{AreChoices}
-use Rattle.f77_jumps.specs.Parts.{IsElsePart}
-use Rattle.f77_jumps.proofs.nests.else_ends.Given as goal
-
-abbrev pub invariant-loop-k : goal.invariant-loop-k
-invariant-loop-k l = AreChoices (IsElsePart l.parts.control.statements.now) (end_if l.parts.control.statements.now) l.k l.ends

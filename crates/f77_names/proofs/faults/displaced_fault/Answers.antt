@@ -1,6 +1,0 @@
-use Rattle.f77_names.specs.Dummies.{displaces_at}
-use Rattle.f77_names.proofs.Passes.{by_test}
-use Rattle.f77_names.proofs.faults.displaced_fault.Goals as goal
-
-pub returns : goal.returns
-returns c = by_test c.args.unit.now.statements _ (displaces_at c.args.facts.now.attributes c.args.unit.now) _ _ _ _ _ c.as_slice.ensures c.as_slice-2.ensures c.in_ok-flags.ensures c.earliest_flagged.ensures.earliest

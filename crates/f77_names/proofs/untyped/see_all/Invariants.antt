@@ -1,7 +1,0 @@
-use Rattle.std.proofs.Common.{◌≡◌, drop, fold}
-use Rattle.f77_store.specs.Names.{with_name}
-use Rattle.f77_names.specs.Untyped.{names_in}
-use Rattle.f77_names.proofs.untyped.see_all.Given as goal
-
-abbrev pub invariant-loop-occurrence : goal.invariant-loop-occurrence
-invariant-loop-occurrence l = fold with_name l.seen (names_in (drop l.occurrence-index l.occurrence-items)) ≡ fold with_name l.initial.seen (names_in l.occurrence-items)

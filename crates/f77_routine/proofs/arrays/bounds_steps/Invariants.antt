@@ -1,6 +1,0 @@
-use Rattle.std.proofs.Common.{◌≡◌, ◌++◌, drop}
-use Rattle.f77_routine.specs.Pieces.{steps_of, meant, bounds_steps}
-use Rattle.f77_routine.proofs.arrays.bounds_steps.Given as goal
-
-abbrev pub invariant-loop-bound : goal.invariant-loop-bound
-invariant-loop-bound l = steps_of l.steps ++ bounds_steps (meant l.names) (drop l.bound-index l.bound-items) ≡ bounds_steps (meant l.names) l.bound-items

@@ -1,9 +1,0 @@
-use Rattle.std.proofs.Common.{◌≡◌, ◌+◌, ◌++◌, drop}
-use Rattle.f77_routine.specs.Pieces.{steps_of, meant, site_total, items_steps}
-use Rattle.f77_routine.proofs.targets.push_items.Given as goal
-
-abbrev pub invariant-loop-e : goal.invariant-loop-e
-invariant-loop-e l = record {
-  sites : l.next + site_total (meant l.names) (drop l.e-index l.e-items) ≡ l.fn.site + site_total (meant l.names) l.e-items;
-  steps : steps_of l.code ++ items_steps (meant l.names) (drop l.e-index l.e-items) l.next ≡ steps_of l.initial.code ++ items_steps (meant l.names) l.e-items l.fn.site;
-}

@@ -1,5 +1,0 @@
-use Rattle.f77_running.proofs.Joins.{meaning_joins}
-use Rattle.f77_running.proofs.joining_law.Goals as goal
-
-pub returns : goal.returns
-returns c = record { joins = meaning_joins }

@@ -1,5 +1,0 @@
-use Rattle.f77_running.proofs.Extend.{source_extends}
-use Rattle.f77_running.proofs.longer_runs_law.Goals as goal
-
-pub returns : goal.returns
-returns c = record { extends = source_extends }

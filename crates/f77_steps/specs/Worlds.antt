@@ -1,7 +1,0 @@
--- The world that a machine stands for.
-use Rattle.run_model.specs.Acts.{World}
-use Rattle.f77_cells.specs.Cells.{cells_of}
-use Rattle.f77_steps.specs.declared.machine.Machine.{Machine}
-
-abbrev pub world_of : Machine → World
-world_of m = record { cells = cells_of m.storage; out = m.out.items; input = m.input.now; left = m.left }

@@ -1,7 +1,0 @@
-use Rattle.std.proofs.Common.{◌≡◌, drop}
-use Rattle.std.specs.List.{list_any}
-use Rattle.f77_types.specs.Breaks.{block_breaks}
-use Rattle.f77_types.proofs.breaks.blocks_break.Given as goal
-
-abbrev pub invariant-loop-block : goal.invariant-loop-block
-invariant-loop-block l = list_any (block_breaks l.facts l.constants l.rule) (drop l.block-index l.block-items) ≡ list_any (block_breaks l.facts l.constants l.rule) l.block-items

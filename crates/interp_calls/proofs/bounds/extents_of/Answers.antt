@@ -1,0 +1,9 @@
+use Rattle.f77_semantics.specs.Units.{extents}
+use Rattle.interp_calls.proofs.Gathering.{all_of, none_of}
+use Rattle.interp_calls.proofs.bounds.extents_of.Goals as goal
+
+pub returns-in-Ok : goal.returns-in-Ok
+returns-in-Ok c = all_of (extents c.args.pairs.now) c.new-all.result c.new-all.ensures _ c.in-Ok.ensures
+
+pub returns-in-Err : goal.returns-in-Err
+returns-in-Err c = none_of (extents c.args.pairs.now) c.new-all.result c.new-all.ensures c.in-Err.stop c.in-Err.ensures

@@ -1,0 +1,88 @@
+//! The pieces of a unit, by the numbers of their statements.
+ghost use Rattle.std.specs.Prelude.{◌≡◌, ℕ, ◌<◌, length, option_map, MatchOption, IfSome, OnOk};
+ghost use Rattle.f77_semantics.specs.Program as program;
+ghost use Rattle.f77_semantics.specs.Statements as s;
+ghost use Rattle.f77_store.specs.Names.{Name};
+ghost use Rattle.interp_steps.specs.Frames.{frame_of};
+ghost use Rattle.interp_turns.specs.Flows.{variable_of};
+ghost use Rattle.interp_turns.specs.Places.{here_of, Stands};
+ghost use Rattle.interp_turns.specs.Turns.{Turns};
+ghost use Rattle.interp_lower.specs.Lines.{IsLine, IsPiece};
+ghost use Rattle.interp_lower.specs.Units.{StandsFor};
+ghost use Rattle.interp_calls.specs.Procedures as p;
+
+use super::procedure::Procedure;
+use f77_tree::Ty;
+use interp_code::{Base, Ending};
+use interp_lower::{Line, Piece, Routine};
+use interp_steps::{Frame, Machine, Stop};
+use interp_turns::{Here, Turn, advance};
+use std::alloc::Global;
+
+fn line<'p, 'u>(procedure: &'p Procedure<'u>, k: usize) -> Option<&'p Line>
+    ensures within { IfSome result (λ _. k < length procedure.now.control.statements.now) }
+    ensures line { (find : Name → ℕ) → (u : program.Routine) → p.IsUnit find procedure.now u → MatchOption result (s.statement u k ≡ program.NoStatement) (λ l. IsLine l.now (s.statement u k)) }
+{
+    if k < procedure.control.statements.len() {
+        let lines = procedure.routine.lines.as_slice();
+        lines.get(k)
+    } else {
+        None
+    }
+}
+
+/// The piece of statement k.
+pub fn piece<'p, 'u>(procedure: &'p Procedure<'u>, k: usize) -> Option<&'p Piece>
+    ensures within { IfSome result (λ _. k < length procedure.now.control.statements.now) }
+    ensures piece { (find : Name → ℕ) → (u : program.Routine) → p.IsUnit find procedure.now u → MatchOption result (s.statement u k ≡ program.NoStatement) (λ piece. IsPiece piece.now (s.statement u k)) }
+{
+    match line(procedure, k) {
+        Some(line) => Some(&line.piece),
+        None => None,
+    }
+}
+
+/// The piece inside the logical IF at k.
+pub fn inner_piece<'p, 'u>(procedure: &'p Procedure<'u>, k: usize) -> Option<&'p Piece>
+    ensures within { IfSome result (λ _. k < length procedure.now.control.statements.now) }
+    ensures piece { (find : Name → ℕ) → (u : program.Routine) → p.IsUnit find procedure.now u → MatchOption result (s.inner (s.statement u k) ≡ program.NoStatement) (λ piece. IsPiece piece.now (s.inner (s.statement u k))) }
+{
+    match line(procedure, k) {
+        Some(line) => line.inner.as_ref(),
+        None => None,
+    }
+}
+
+/// Where the result of a function stands.
+pub fn variable(routine: &Routine) -> Option<(Ty, &Base)>
+    ensures { (u : program.Routine) → StandsFor routine.now u → u.result ≡ option_map variable_of result }
+{
+    match &routine.result {
+        Some((ty, base)) => Some((*ty, base)),
+        None => None,
+    }
+}
+
+/// The advance of the DO at k, and its test.
+pub fn advance_at<'p, 'u>(
+    alloc: Global,
+    procedure: &'p Procedure<'u>,
+    frame: &Frame<'p>,
+    k: usize,
+    here: &mut Here,
+    machine: &mut Machine,
+) -> Result<Turn, Stop>
+    requires stands { Stands (length procedure.now.control.statements.now) here.old }
+    ensures turn { (find : Name → ℕ) → (u : program.Routine) → p.IsUnit find procedure.now u → Turns result here.new machine.old machine.new (s.advance u (frame_of frame.now) (here_of here.old) k (s.statement u k)) }
+    ensures stands { OnOk result (Stands (length procedure.now.control.statements.now) here.new) }
+{
+    match piece(procedure, k) {
+        Some(piece) => match &piece.ending {
+            Ending::Count(base) => {
+                advance(alloc, &procedure.control, frame, base, k, here, machine)
+            }
+            _ => Err(Stop::Stuck),
+        },
+        None => Err(Stop::Stuck),
+    }
+}

@@ -1,0 +1,28 @@
+use Rattle.std.proofs.Common.{◌+◌, ◌++◌, ap, ◌∙◌}
+use Rattle.interp_lower.specs.Pieces.{steps_of, meant, site_total, items_steps}
+use Rattle.interp_lower.proofs.Coming.{sites_more, sites_end, items_more, items_end}
+use Rattle.interp_lower.proofs.targets.push_items.Goals as goal
+
+pub loop-e-preserved : goal.loop-e-preserved
+loop-e-preserved c =
+    let m = meant c.args.names.now in
+    let es = c.as_slice-e-items.result.now in
+    let i = c.loop-e.e-index in
+    let e = c.e-item.result in
+    let next = c.in_ok-next.ensures.next in
+    record {
+      sites = sites_more m es i c.loop-e.next c.in_ok-next.next _ e c.loop-e-test.true c.e-item.is next c.loop-e.invariant.sites;
+      steps = items_more m es i c.loop-e.next c.in_ok-next.next e (steps_of c.loop-e.code) (steps_of c.push_item.new.code) _ c.loop-e-test.true c.e-item.is next c.in_ok-next.ensures.steps c.loop-e.invariant.steps;
+    }
+
+pub returns-clause-next : goal.returns-clause-next
+returns-clause-next c =
+    let m = meant c.args.names.now in
+    sites_end m c.as_slice-e-items.result.now c.loop-e.e-index c.loop-e.next _ c.loop-e-test.false c.loop-e.invariant.sites
+    ∙ ap (λ es. c.args.site + site_total m es) c.as_slice-e-items.ensures
+
+pub returns-clause-steps : goal.returns-clause-steps
+returns-clause-steps c =
+    let m = meant c.args.names.now in
+    items_end m c.as_slice-e-items.result.now c.loop-e.e-index c.loop-e.next (steps_of c.loop-e.code) _ c.loop-e-test.false c.loop-e.invariant.steps
+    ∙ ap (λ es. steps_of c.args.code.now ++ items_steps m es c.args.site) c.as_slice-e-items.ensures
