@@ -1,4 +1,12 @@
 //! Thin programs mean the same as the units that they are.
+//!
+//! The tree of a thin text is one main program without labels, declarations and lists, so its names are scalars of
+//! INTEGER in the local area, each where it first appeared (`proofs/Naming`, `Places`); its statements are looked
+//! up to the images of the thin ones (`Looked`), and control goes from each to the next (`Flowing`). A turn of the
+//! unit and one of the thin program then come to the same from worlds with the same local cells (`Acting`,
+//! `Running`). Their worlds aren't equal: the unit prints a record part by part, and its area has the unit's own
+//! name, which is MAIN in a text that was read, but needn't be. That no place stands still at the greatest number
+//! of 32 bits follows from fault 37 of a program's storage.
 #![tactic(auto)]
 
 ghost use Rattle.thin_meaning.specs.Laws.{TextsRunAlike, ThinTextsHaveUnits, UnitsRunAlike};
