@@ -13,9 +13,16 @@ use std::hash::{Hash, Hasher};
 use std::marker::Model;
 
 /// A name, which contracts see as its bytes.
-#[derive(Debug, Drop)]
+#[derive(Debug)]
 pub struct Name {
     bytes: List<u8>,
+}
+
+impl Drop for Name {
+    fn drop(self) {
+        let Name { bytes } = self;
+        drop(bytes)
+    }
 }
 
 impl Model for Name {

@@ -37,7 +37,6 @@ pub enum UnitKind {
 }
 
 /// A program unit. `tokens` is the number of tokens of its statement texts.
-#[derive(Drop)]
 pub struct Unit {
     pub kind: UnitKind,
     pub name: Name,
@@ -46,12 +45,37 @@ pub struct Unit {
     pub tokens: u32,
 }
 
+impl Drop for Unit {
+    fn drop(self) {
+        let Unit {
+            kind: _,
+            name,
+            dummies,
+            statements,
+            tokens: _,
+        } = self;
+        drop(name);
+        drop(dummies);
+        drop(statements)
+    }
+}
+
 /// A statement with its label (0 for none) and its line in the unit.
-#[derive(Drop)]
 pub struct Stmt {
     pub label: u32,
     pub line: u32,
     pub form: Form,
+}
+
+impl Drop for Stmt {
+    fn drop(self) {
+        let Stmt {
+            label: _,
+            line: _,
+            form,
+        } = self;
+        drop(form)
+    }
 }
 
 impl Item {
