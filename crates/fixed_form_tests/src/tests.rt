@@ -27,7 +27,7 @@ fn told(alloc: Global, text: &[u8]) -> Result<Vec<u8>, AllocError> {
     Ok(all)
 }
 
-static UNITS: [(&str, &str); 24] = [
+static UNITS: [(&str, &str); 27] = [
     ("", ""),
     ("C one\n\n* two", ""),
     ("      I = 1\n      END\n", "MAIN|1 0 I=1|2 0 END;"),
@@ -74,6 +74,18 @@ static UNITS: [(&str, &str); 24] = [
     ("00000 I = 1\n", "fault 2 line 1"),
     ("A     I = 1\n", "fault 2 line 1"),
     ("      I = 1\n1    1+ 2\n", "fault 2 line 2"),
+    (
+        "      PRINT *, 'AB\n1    1 \x7f\n      END\n",
+        "fault 2 line 2",
+    ),
+    (
+        "      PRINT *, 'AB\n1    1'\x7f\n      END\n",
+        "fault 1 line 2",
+    ),
+    (
+        "      PRINT *, 'AB\n1     \x7f\n      END\n",
+        "fault 1 line 2",
+    ),
     ("\x7f     I = 1\n", "fault 1 line 1"),
     ("      END\n     1I\n", "fault 3 line 2"),
     ("      I = 1", "fault 5 line 1"),
