@@ -2,12 +2,13 @@
 ghost use Rattle.std.specs.Prelude.{◌≡◌, ℕ, Option, Some, IfOk};
 ghost use Rattle.std.specs.Option.{option_map};
 ghost use Rattle.f77_tree.specs.declared.expr.Expr.{out-Expr};
-ghost use Rattle.f77_store.specs.Names.{what, saturated};
+ghost use Rattle.f77_values.specs.Tables.{what, saturated};
 ghost use Rattle.check_common.specs.Storage as s;
 
 use super::offsets::{MOST, offset};
 use super::storage::Storage;
-use f77_store::{Place, Table, size_of};
+use f77_store::{Place, size_of};
+use f77_values::Table;
 use f77_tree::{Expr, List, Name, Value};
 use std::alloc::{AllocError, Global};
 

@@ -7,7 +7,7 @@ ghost use Rattle.f77_semantics.specs.Statements as s;
 ghost use Rattle.interp_steps.specs.Stops.{Gives, Stopped};
 
 use super::stop::Stop;
-use f77_store::operate;
+use f77_values::operate;
 use f77_tree::{Op, Value};
 use std::alloc::{AllocError, Global};
 

@@ -15,7 +15,7 @@ use super::ranks::{may_cycle, ranks_of};
 use super::scans::mark_at;
 use super::searches::led_to;
 use super::signatures::Signature;
-use f77_store::Table;
+use f77_values::Table;
 use f77_tree::List;
 use std::alloc::{AllocError, Global};
 

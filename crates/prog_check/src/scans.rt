@@ -14,7 +14,7 @@ use super::marks::{ProgramMark, first_of};
 use super::mentions::Mention;
 use super::programs::Program;
 use super::signatures::Signature;
-use f77_store::Table;
+use f77_values::Table;
 use f77_tree::{List, Unit, UnitKind};
 
 /// A fault by its number, its limit, the place of its unit and its line.

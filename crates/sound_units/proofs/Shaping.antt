@@ -14,12 +14,12 @@ use Rattle.f77_tree.specs.declared.unit.Ty.TheVariants as types
 use Rattle.f77_tree.specs.declared.unit.Value.{Value}
 use Rattle.f77_tree.specs.declared.unit.Value.TheVariants.{Integer, Logical}
 use Rattle.f77_store.specs.declared.areas.Place.{Place}
-use Rattle.f77_store.specs.declared.declarations.Shape.{Shape}
-use Rattle.f77_store.specs.declared.roles.Facts.{Facts}
-use Rattle.f77_store.specs.Constants.{value_of, with_statement, constants}
-use Rattle.f77_store.specs.Declarations.{word_of, declared, of_head, in_block, in_form, declarations_from, declarations, shape_told, shapes}
-use Rattle.f77_store.specs.Names.{Name, is_among, Told, what, saturated}
-use Rattle.f77_store.specs.Sizes.{Bounds, whole, lower, upper, span, between, extent, times, elements}
+use Rattle.f77_names.specs.declared.declarations.Shape.{Shape}
+use Rattle.f77_names.specs.declared.facts.Facts.{Facts}
+use Rattle.f77_values.specs.Constants.{value_of, with_statement, constants}
+use Rattle.f77_names.specs.Declarations.{word_of, declared, of_head, in_block, in_form, declarations_from, declarations, shape_told, shapes}
+use Rattle.f77_values.specs.Tables.{Name, is_among, Told, what, saturated}
+use Rattle.f77_values.specs.Sizes.{Bounds, whole, lower, upper, span, between, extent, times, elements}
 use Rattle.check_types.specs.declared.breaks.Rule.TheVariants.{Types, Exponents}
 use Rattle.check_types.specs.Breaks.{optional_breaks, bound_breaks}
 use Rattle.check_types.specs.Exponents.{has_wrong_exponent}

@@ -3,9 +3,9 @@ use Rattle.std.proofs.Common.{◌≡◌, ℕ, zero, suc, Bool, true, false, cond
 use Rattle.std.specs.List.{list_any}
 use Rattle.std.specs.Cmp.Lexicographic.{same_text}
 use Rattle.std.proofs.lemmas.Cmp.{nat_list_eq_equiv}
-use Rattle.f77_store.specs.declared.occurrences.Manner.{Manner}
-use Rattle.f77_store.specs.Names.{Name, name_eq, is_among, with_name, distinct, what, Told, with_told, with_pair}
-use Rattle.f77_store.specs.Occurrences.{Occurrences, is_manner, names_that}
+use Rattle.f77_names.specs.declared.occurrences.Manner.{Manner}
+use Rattle.f77_values.specs.Tables.{Name, name_eq, is_among, with_name, distinct, what, Told, with_told, with_pair}
+use Rattle.f77_names.specs.Occurrences.{Occurrences, is_manner, names_that}
 use Rattle.sound_units.specs.Sites.{Each}
 use Rattle.sound_units.proofs.Giving.{any_left, any_right, occurs_so}
 use Rattle.sound_units.proofs.Lists.{any-append}
