@@ -12,7 +12,7 @@ use Rattle.f77_tree.specs.declared.unit.Ty.TheVariants.{Integer, Logical}
 use Rattle.f77_tree.specs.declared.unit.Value.{Value}
 use Rattle.f77_names.specs.declared.declarations.Declaration.{Declaration}
 use Rattle.f77_names.specs.declared.declarations.Shape.{Shape}
-use Rattle.f77_values.specs.Tables.{Name, Told, told, saturated}
+use Rattle.f77_values.specs.Tables.{Name, Told, told_first, saturated}
 use Rattle.f77_values.specs.Constants.{with_statement}
 use Rattle.f77_values.specs.Sizes.{elements}
 
@@ -48,7 +48,7 @@ declarations_from named (s ∷ others) = in_form named (out-Form s.form) ++ decl
 abbrev pub declarations : List Stmt → List Declaration
 declarations statements = declarations_from [] statements
 
--- what they tell of types
+-- What they tell of types. A name has the type that is told first; where a second one is told, that is a fault of its own.
 abbrev pub word_pair : Name → Option TypeWord → List (Name × TypeWord)
 word_pair name None = []
 word_pair name (Some word) = (name, word) ∷ []
@@ -57,11 +57,11 @@ abbrev pub word_told : Declaration → List (Name × TypeWord)
 word_told d = word_pair d.name d.word
 
 abbrev pub words : List Declaration → Told TypeWord
-words all = told (flat_map word_told all)
+words all = told_first (flat_map word_told all)
 
--- the bounds of arrays, with the number of elements where they are constant
+-- The bounds of arrays, with the number of elements where they are constant. Here too what is told first counts.
 abbrev pub shape_told : Declaration → List (Name × Shape)
 shape_told d = if length d.bounds == 0 then [] else (d.name, record { bounds = d.bounds; size = d.size }) ∷ []
 
 abbrev pub shapes : List Declaration → Told Shape
-shapes all = told (flat_map shape_told all)
+shapes all = told_first (flat_map shape_told all)

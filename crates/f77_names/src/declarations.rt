@@ -154,16 +154,30 @@ pub fn declarations_of(
     Ok(found)
 }
 
+fn put_first(
+    alloc: Global,
+    words: &mut Table<TypeWord>,
+    name: &Name,
+    word: TypeWord,
+) -> Result<(), AllocError>
+    ensures { OnOk result (words.new ≡ n.with_first words.old (name.now, word)) }
+{
+    if words.get(name).is_some() {
+        return Ok(());
+    }
+    words.insert(name.copy(alloc)?, word)
+}
+
 fn tell_word(alloc: Global, words: &mut Table<TypeWord>, d: &Declaration) -> Result<(), AllocError>
-    ensures { OnOk result (words.new ≡ fold n.with_pair words.old (m.word_told d.now)) }
+    ensures { OnOk result (words.new ≡ fold n.with_first words.old (m.word_told d.now)) }
 {
     match d.word {
-        Some(word) => words.insert(d.name.copy(alloc)?, word),
+        Some(word) => put_first(alloc, words, &d.name, word),
         None => Ok(()),
     }
 }
 
-/// The types that statements tell.
+/// The types that statements tell, of each name the first.
 pub fn words_of(
     alloc: Global,
     declarations: &List<Declaration>,
@@ -178,9 +192,12 @@ pub fn words_of(
 }
 
 fn tell_shape(alloc: Global, shapes: &mut Table<Shape>, d: &Declaration) -> Result<(), AllocError>
-    ensures { OnOk result (shapes.new ≡ fold n.with_pair shapes.old (m.shape_told d.now)) }
+    ensures { OnOk result (shapes.new ≡ fold n.with_first shapes.old (m.shape_told d.now)) }
 {
     if d.bounds.len() == 0 {
+        return Ok(());
+    }
+    if shapes.get(&d.name).is_some() {
         return Ok(());
     }
     let name = d.name.copy(alloc)?;
@@ -194,7 +211,7 @@ fn tell_shape(alloc: Global, shapes: &mut Table<Shape>, d: &Declaration) -> Resu
     )
 }
 
-/// The shapes of a unit's arrays.
+/// The shapes of a unit's arrays, of each the one that is told first.
 pub fn shapes_of(
     alloc: Global,
     declarations: &List<Declaration>,

@@ -1,5 +1,5 @@
 -- Names, lists of names, and what is told of names.
-use Rattle.std.specs.Prelude.{ℕ, min, List, [], ◌∷◌, ◌++◌, Option, Bool, nat_eq, fold, if◌then◌else◌}
+use Rattle.std.specs.Prelude.{ℕ, min, List, [], ◌∷◌, ◌++◌, Option, Bool, nat_eq, fold, is_some, if◌then◌else◌}
 use Rattle.std.specs.List.{list_any}
 use Rattle.std.specs.Map.{lookup}
 use Rattle.indexmap.specs.IndexMap.{insert_entry}
@@ -40,6 +40,13 @@ with_pair known pair = with_told known pair.0 pair.1
 
 abbrev pub told : {A : Type 0} → List (Name × A) → Told A
 told pairs = fold with_pair [] pairs
+
+-- What is told of a name first counts, and what is told of it again doesn't.
+abbrev pub with_first : {A : Type 0} → Told A → Name × A → Told A
+with_first known pair = if is_some (what known pair.0) then known else with_pair known pair
+
+abbrev pub told_first : {A : Type 0} → List (Name × A) → Told A
+told_first pairs = fold with_first [] pairs
 
 -- Numbers of storage units have 32 bits. What is more stands still at the greatest.
 abbrev pub most : ℕ
