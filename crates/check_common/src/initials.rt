@@ -8,8 +8,8 @@ use super::runs::{Run, item_run};
 use super::storage::{Storage, storage_of};
 use f77_names::{Declaration, declarations_of};
 use f77_store::commons_of;
-use f77_values::{Table, define_in};
 use f77_tree::{DataConst, Expr, Form, List, Stmt, Unit, Value};
+use f77_values::{Table, define_in};
 use std::alloc::{AllocError, Global};
 
 /// Storage units of a COMMON block that a statement of DATA initialises, with its line and the place of its unit in the list.

@@ -5,8 +5,8 @@ ghost use Rattle.f77_values.specs.Tables.{saturated};
 ghost use Rattle.f77_values.specs.Sizes as z;
 ghost use Rattle.check_common.specs.Storage as s;
 
-use f77_values::{Table, evaluate};
 use f77_tree::{Expr, Value};
+use f77_values::{Table, evaluate};
 
 /// The number of a block's storage units that have a number.
 pub const MOST: u32 = u32::MAX;

@@ -8,8 +8,8 @@ ghost use Rattle.check_common.specs.Storage as s;
 use super::offsets::{MOST, offset};
 use super::storage::Storage;
 use f77_store::{Place, size_of};
-use f77_values::Table;
 use f77_tree::{Expr, List, Name, Value};
+use f77_values::Table;
 use std::alloc::{AllocError, Global};
 
 /// So many storage units of a block from one on, each below 4,294,967,295.

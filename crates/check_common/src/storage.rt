@@ -6,8 +6,8 @@ ghost use Rattle.check_common.specs.Storage as s;
 
 use f77_names::{Declaration, Shape, shapes_of};
 use f77_store::{Member, Place, lay_out};
-use f77_values::{Table, constants_of};
 use f77_tree::{List, Stmt, Unit, Value};
+use f77_values::{Table, constants_of};
 use std::alloc::{AllocError, Global};
 
 /// Where a unit's members of COMMON blocks stand, the shapes of its arrays, and its named constants.

@@ -10,8 +10,8 @@ use super::measures::Measured;
 use super::runs::{constant_runs, differ, item_runs};
 use f77_names::Facts;
 use f77_store::Place;
-use f77_values::Table;
 use f77_tree::{DataConst, Expr, Form, List, Stmt, UnitKind, Value};
+use f77_values::Table;
 use std::alloc::{AllocError, Global};
 
 fn wrong_item(

@@ -12,8 +12,8 @@ use super::defined::Defined;
 use super::measures::Measured;
 use super::needed::{is_constant, whole};
 use f77_store::Place;
-use f77_values::{Table, evaluate};
 use f77_tree::{DataConst, Expr, List, Name, UnitKind, Value};
+use f77_values::{Table, evaluate};
 
 fn misplaced(kind: UnitKind, commons: &Table<Place>, name: &Name) -> bool
     ensures { result ≡ m.misplaced kind (what commons.now name.now) }

@@ -8,8 +8,8 @@ ghost use Rattle.check_constants.specs.Seen as s;
 
 use super::elements::{Elements, Subscripts};
 use super::needed::whole;
-use f77_values::{Table, evaluate};
 use f77_tree::{DataConst, Expr, Form, List as Items, Name, Value};
+use f77_values::{Table, evaluate};
 use std::alloc::{AllocError, Global};
 
 /// All of a name, or its element with these subscripts.

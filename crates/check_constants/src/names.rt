@@ -7,8 +7,8 @@ ghost use Rattle.check_constants.specs.Needed as m;
 
 use f77_names::{Facts, is_function, is_intrinsic};
 use f77_store::Place;
-use f77_values::Table;
 use f77_tree::{List, Name, Ty, TypeWord};
+use f77_values::Table;
 
 fn initial(name: &Name) -> usize
     ensures { result ≡ slice_index name.now 0 }

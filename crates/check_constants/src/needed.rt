@@ -14,8 +14,8 @@ use super::expressions::judge;
 use super::names::is_adjustable;
 use f77_names::Facts;
 use f77_store::Place;
-use f77_values::{Bounds, Names, Table, evaluate};
 use f77_tree::{DataConst, Declarator, Expr, Form, List, Name, Stmt, Value};
+use f77_values::{Bounds, Names, Table, evaluate};
 use std::alloc::{AllocError, Global};
 
 /// An integer value.

@@ -17,8 +17,8 @@ use super::needed::statement_lacks;
 use super::repeats::repeat_fault;
 use f77_names::Facts;
 use f77_store::Place;
-use f77_values::Table;
 use f77_tree::{List, Stmt, Unit, UnitKind};
+use f77_values::Table;
 use fault_marks::{Mark, earliest_flagged, first_of};
 use std::alloc::{AllocError, Global};
 

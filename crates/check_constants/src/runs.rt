@@ -9,8 +9,8 @@ ghost use Rattle.check_constants.specs.Pairing as p;
 use super::measures::Measured;
 use super::names::type_of;
 use f77_names::Facts;
-use f77_values::{Table, evaluate};
 use f77_tree::{DataConst, Expr, List, Name, Ty, Value};
+use f77_values::{Table, evaluate};
 use std::alloc::{AllocError, Global};
 
 /// So many elements or constants of one type.

@@ -10,8 +10,8 @@ use super::attribute::{Given, conflicts, nothing, with_attribute};
 use super::givings::{Giving, push_form, push_occurrences};
 use super::texts::occurrences_in;
 use f77_names::Attributes;
-use f77_values::Table;
 use f77_tree::{List, Name, Stmt, Unit};
+use f77_values::Table;
 use std::alloc::{AllocError, Global};
 
 fn given_to(table: &Table<Given>, name: &Name) -> Given

@@ -7,8 +7,8 @@ ghost use Rattle.f77_values.specs.Tables.{saturated};
 ghost use Rattle.check_names.specs.LargeArrays as l;
 
 use f77_names::Attributes;
-use f77_values::{Table, define_in, elements};
 use f77_tree::{Declarator, Form, List, Name, Unit, Value};
+use f77_values::{Table, define_in, elements};
 use std::alloc::{AllocError, Global};
 
 /// The greatest number of storage units of one array.

@@ -6,9 +6,11 @@ ghost use Rattle.check_names.specs.Places as p;
 ghost use Rattle.check_names.specs.Untyped as u;
 
 use super::texts::occurrences_in;
-use f77_names::{Attributes, Facts, Occurrence, is_function, is_intrinsic, name_word, storage_type};
-use f77_values::Names;
+use f77_names::{
+    Attributes, Facts, Occurrence, is_function, is_intrinsic, name_word, storage_type,
+};
 use f77_tree::{List, Name, Stmt, Unit, UnitKind};
+use f77_values::Names;
 use std::alloc::{AllocError, Global};
 
 fn is_function_kind(kind: UnitKind) -> bool

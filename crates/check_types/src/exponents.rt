@@ -5,8 +5,8 @@ ghost use Rattle.f77_values.specs.Arithmetic as m;
 ghost use Rattle.f77_values.specs.Constants as c;
 ghost use Rattle.check_types.specs.Exponents as x;
 
-use f77_values::{Table, denied, kept, negated, operated};
 use f77_tree::{Expr, List, Op, Value};
+use f77_values::{Table, denied, kept, negated, operated};
 
 /// The value of an expression, if it is constant, and whether an exponent in it is no constant from 0 to 62.
 #[derive(Clone, Copy, Debug, Drop)]

@@ -6,8 +6,8 @@ ghost use Rattle.check_types.specs.Overreaching as o;
 use super::breaks::{Rule, form_breaks};
 use super::exponents::has_wrong_exponent;
 use f77_names::Facts;
-use f77_values::{Table, evaluate};
 use f77_tree::{Expr, Form, List, Name, Stmt, Value};
+use f77_values::{Table, evaluate};
 use std::alloc::{AllocError, Global};
 
 fn define(

@@ -8,8 +8,8 @@ ghost use Rattle.f77_semantics.specs.Data as d;
 ghost use Rattle.interp_lower.specs.Cells as c;
 
 use f77_store::{Area, Slot};
-use f77_values::{Names as NameSet};
 use f77_tree::{DataConst, Expr, Form, List, Name, Stmt};
+use f77_values::Names as NameSet;
 use std::alloc::{AllocError, Global};
 
 /// Storage units of the local area, `length` of them from `from` on.

@@ -11,8 +11,8 @@ use super::meaning::Meaning;
 use super::standing::{array_of, base_of};
 use f77_names::{Facts, Role, intrinsic_of, role_of};
 use f77_store::Slot;
-use f77_values::Table;
 use f77_tree::{List, Name};
+use f77_values::Table;
 use std::alloc::{AllocError, Global};
 
 /// The facts and the slots of a unit. What the names with a slot stand for is told once.

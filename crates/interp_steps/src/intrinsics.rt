@@ -8,8 +8,8 @@ ghost use Rattle.interp_steps.specs.Stops.{Gives};
 
 use super::stop::Stop;
 use f77_names::Intrinsic;
-use f77_values::operate;
 use f77_tree::{Op, Value};
+use f77_values::operate;
 
 fn greatest(first: i64, others: &[i64]) -> i64
     ensures { result ≡ v.greatest first others.now }

@@ -11,8 +11,8 @@ ghost use Rattle.prog_check.specs.Scans as s;
 use super::marks::{ProgramMark, first_of};
 use super::scans::mark_at;
 use f77_store::{layout, so_far};
-use f77_values::{Names, Table};
 use f77_tree::{List, Name, Unit, weight};
+use f77_values::{Names, Table};
 use std::alloc::{AllocError, Global};
 
 /// What is summed over the units.

@@ -11,8 +11,8 @@ use super::mentions::Mention;
 use super::signatures::{Signature, signature_of};
 use super::texts::mentions_with;
 use f77_names::{Facts, declarations_of, facts_of, occurrences_of};
-use f77_values::Table;
 use f77_tree::{List, Unit};
+use f77_values::Table;
 use std::alloc::{AllocError, Global};
 
 /// The units by their names, and what the text of each says.
