@@ -1,9 +1,9 @@
 //! The first fault of units, with near misses.
 ghost use Rattle.std.specs.Prelude.{◌≡◌, IfOk};
-ghost use Rattle.f77_store.specs.Roles as r;
+ghost use Rattle.f77_names.specs.Roles as r;
 
 use check_names::name_fault;
-use f77_store::{Facts, declarations_of, facts_of, occurrences_of};
+use f77_names::{Facts, declarations_of, facts_of, occurrences_of};
 use f77_tree::{
     Declarator, Expr, Form, List, Name, Stmt, Ty, TypeWord, Unit, UnitKind, blank_name,
 };

@@ -1,9 +1,9 @@
 //! Assignments in a unit, and the first fault that they show.
 ghost use Rattle.std.specs.Prelude.{◌≡◌, IfOk};
-ghost use Rattle.f77_store.specs.Roles as r;
+ghost use Rattle.f77_names.specs.Roles as r;
 
 use check_types::type_fault;
-use f77_store::{Facts, declarations_of, facts_of, occurrences_of};
+use f77_names::{Facts, declarations_of, facts_of, occurrences_of};
 use f77_tree::{Box, Declarator, Expr, Form, List, Name, Op, Stmt, Ty, Unit, UnitKind};
 use fault_marks::Mark;
 use std::alloc::{AllocError, Global};

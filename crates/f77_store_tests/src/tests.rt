@@ -1,9 +1,11 @@
 //! Layouts of units against those that the rules give.
-use f77_store::{Area, Known, Role, Slot, Table, evaluate, layout};
+use f77_names::{Known, Role};
+use f77_store::{Area, Slot, layout};
 use f77_tree::{
     Box, DataConst, Declarator, Expr, Form, List, Name, Op, Stmt, Ty, TypeWord, Unit, UnitKind,
     Value,
 };
+use f77_values::{Table, evaluate};
 use std::alloc::{AllocError, Global};
 use std::test::Fail;
 

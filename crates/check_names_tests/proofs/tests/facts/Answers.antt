@@ -1,7 +1,7 @@
 use Rattle.std.proofs.Common.{ap, ◌∙◌}
-use Rattle.f77_store.specs.Occurrences.{Occurrences}
-use Rattle.f77_store.specs.Roles.{facts_with}
-use Rattle.f77_store.proofs.Given.{if_ok}
+use Rattle.f77_names.specs.Occurrences.{Occurrences}
+use Rattle.f77_names.specs.Roles.{facts_with}
+use Rattle.f77_values.proofs.Given.{if_ok}
 use Rattle.check_names_tests.proofs.tests.facts.Goals as goal
 
 pub returns : goal.returns
