@@ -7,18 +7,18 @@ use Rattle.f77_expr.specs.Spelling.{Text}
 use Rattle.f77_expr.specs.Kinds.{Tokens}
 use Rattle.fixed_form.specs.Heads.{Lacks}
 use Rattle.fixed_form.proofs.WordRuns.{false_true}
-use Rattle.f77_forms.specs.declared.keywords.Keyword.{Keyword}
-use Rattle.f77_forms.specs.declared.statement_kinds.StatementKind.{StatementKind}
-use Rattle.f77_forms.specs.declared.statement_kinds.StatementKind.TheVariants as kind
-use Rattle.f77_forms.specs.Answers.{AreTokens, InTokens}
-use Rattle.f77_forms.specs.Only.{Sole, Never}
-use Rattle.f77_forms.specs.StatementKinds.{IsIf, NoIf, IsKind}
-use Rattle.f77_forms.specs.Keywords.{keyword_of, behind}
+use Rattle.form_kinds.specs.declared.keywords.Keyword.{Keyword}
+use Rattle.form_kinds.specs.declared.statement_kinds.StatementKind.{StatementKind}
+use Rattle.form_kinds.specs.declared.statement_kinds.StatementKind.TheVariants as kind
+use Rattle.form_parts.specs.Answers.{AreTokens, InTokens}
+use Rattle.form_parts.specs.Only.{Sole, Never}
+use Rattle.form_kinds.specs.StatementKinds.{IsIf, NoIf, IsKind}
+use Rattle.form_kinds.specs.Keywords.{keyword_of, behind}
 use Rattle.f77_forms.specs.HeadForms.{IsHeadForm}
-use Rattle.f77_forms.specs.Control.{IsExpression}
+use Rattle.form_parts.specs.Parts.{IsExpression}
 use Rattle.f77_forms.specs.Forms.{WordForm, IsWorded, head, by_word, BehindIf, KindForm, HasPlainForm, is_action, HasAction, IsLogicalIf, IsConditional, HasForm, plain, logical_if}
-use Rattle.f77_forms.proofs.Answered.{sole_in, never_in, never_tokens}
-use Rattle.f77_forms.proofs.KindTests.{kind_same, if_same}
+use Rattle.form_parts.proofs.Answered.{sole_in, never_in, never_tokens}
+use Rattle.form_kinds.proofs.KindTests.{kind_same, if_same}
 
 -- ---- words and heads
 
