@@ -1,3 +1,4 @@
+pub mod DeepTexts
 pub mod FormTables
 pub mod HeadParts
 pub mod OneStatement

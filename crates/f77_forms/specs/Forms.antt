@@ -16,6 +16,7 @@ use Rattle.form_parts.specs.Only.{Never, Sole}
 use Rattle.form_kinds.specs.StatementKinds.{IsIf, IsKind}
 use Rattle.form_kinds.specs.Keywords.{keyword_of, behind}
 use Rattle.f77_forms.specs.HeadForms.{IsHeadForm}
+use Rattle.f77_forms.specs.TooDeep.{IsTooDeep}
 use Rattle.form_specification.specs.Declarators.{AreDeclarators, AreArrays}
 use Rattle.form_specification.specs.Specifications.{IsCommon, IsParameter, AreNames, IsSave, IsImplicit}
 use Rattle.form_specification.specs.DataForms.{IsData}
@@ -99,7 +100,7 @@ pub record HasAction (text : Text) (form : Form) : Type 0 where
   pub plain : HasPlainForm text form
   pub action : is_action form ≡ true
 
--- IF(e)s
+-- IF(e)s. Its condition and its statement are read apart, so the depth of parentheses is asked of the whole.
 pub record IsLogicalIf (text : Text) (form : Form) : Type 0 where
   pub condition : Text
   pub statement : Text
@@ -108,6 +109,7 @@ pub record IsLogicalIf (text : Text) (form : Form) : Type 0 where
   pub cut : IsIf text condition statement
   pub is_test : InTokens IsExpression condition test
   pub is_inner : HasAction statement inner
+  pub shallow : IsTooDeep text → ⊥
   pub made : form ≡ f.LogicalIf test inner
 
 -- a logical IF of the condition in a text

@@ -1,3 +1,4 @@
 pub mod Forms
 pub mod HeadForms
 pub mod Laws
+pub mod TooDeep

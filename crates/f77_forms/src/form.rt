@@ -9,6 +9,7 @@ ghost use Rattle.form_parts.specs.Only as o;
 ghost use Rattle.form_parts.specs.Parts as p;
 ghost use Rattle.form_execution.specs.Transfer as t;
 
+use super::depth::is_too_deep;
 use super::head_forms::head_form;
 use super::word_forms::word_form;
 use f77_tree::{Box, Expr, Form};
@@ -161,6 +162,10 @@ fn logical_if(alloc: Global, text: &[u8]) -> Result<Option<Form>, AllocError>
     let Some((condition, statement)) = if_parts(text) else {
         return Ok(None);
     };
+    let too_deep = is_too_deep(alloc, text)?;
+    if too_deep {
+        return Ok(None);
+    }
     let Some(inner) = boxed_action(alloc, statement)? else {
         return Ok(None);
     };

@@ -2,6 +2,7 @@
 #![tactic(auto)]
 
 mod bare_forms;
+mod depth;
 mod form;
 mod head_forms;
 mod laws;
