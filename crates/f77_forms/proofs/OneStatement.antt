@@ -33,7 +33,7 @@ use Rattle.form_parts.proofs.Following.{settles_at}
 use Rattle.form_parts.proofs.NextToken.{next_shorter, same_rest}
 use Rattle.form_parts.proofs.OneParts.{Readings, one_whole, one_enclosed, one_expression, one_variable}
 use Rattle.form_specification.proofs.OneForms.{one_declarators, one_arrays, one_common, one_parameter, one_names, one_save, one_implicit, one_data}
-use Rattle.form_specification.proofs.Declaring.{part_of_front}
+use Rattle.form_parts.proofs.Fronts.{part_of_front}
 use Rattle.form_parts.proofs.Answered.{sole_in, sole_tokens, sole_expression}
 use Rattle.form_execution.proofs.Conditions.{sole_test, sole_two, sole_three, sole_do}
 use Rattle.form_execution.proofs.Transfers.{label_no_open, label_front, sole_plain, sole_computed, go_plain, sole_arithmetic}

@@ -4,6 +4,7 @@ pub mod Elements
 pub mod Enclosed
 pub mod Entries
 pub mod Following
+pub mod Fronts
 pub mod Lists
 pub mod NextToken
 pub mod OneParts

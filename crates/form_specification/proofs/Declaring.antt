@@ -9,12 +9,6 @@ use Rattle.form_parts.specs.Parts.{IsName}
 use Rattle.form_specification.specs.Declarators.{AreBounds, IsDeclarator, plain, array}
 use Rattle.form_parts.proofs.Following.{not_open}
 
-pub part_of_front : {A : Type 0} {Part : Tokens → A → Tokens → Type 0} {slash : Bool} {ts s : Tokens} {x : A} → OnlyFront Part ts x s → OnlyPart Part slash ts x s
-part_of_front o = record { part = o.part; shorter = o.shorter; only = λ y z p f. o.only y z p }
-
-pub no_part_of_front : {A : Type 0} {Part : Tokens → A → Tokens → Type 0} {slash : Bool} {ts : Tokens} → NoFront Part ts → NoPart Part slash ts
-no_part_of_front lacks = record { not = λ y z p f. lacks.not y z p }
-
 declarator_is : (d : Declarator) {name : List ℕ} {bounds : List (Option Expr × Option Expr)} → d.name ≡ name → d.bounds ≡ bounds → d ≡ record { name = name; bounds = bounds }
 declarator_is d {name} {bounds} n b = ap (λ name. record d { name = name }) n ∙ ap (λ bounds. record { name = name; bounds = bounds }) b
 

@@ -1,5 +1,5 @@
 -- Whatever reads them: bounds that end where a list may go on or end are the only ones there.
-use Rattle.std.proofs.Common.{◌≡◌, List, sym, subst, refl, Option}
+use Rattle.std.proofs.Common.{◌≡◌, false, List, sym, subst, refl, Option}
 use Rattle.f77_tree.specs.declared.expr.Expr.{Expr}
 use Rattle.f77_expr.specs.declared.token.Kind.TheVariants as k
 use Rattle.f77_expr.specs.Kinds.{Tokens}

@@ -18,7 +18,8 @@ use Rattle.form_specification.specs.DataForms.{IsInteger, IsSigned, bare, plus, 
 use Rattle.form_parts.proofs.NextToken.{next_shorter, same_kind, same_rest, pair_is, name_next}
 use Rattle.form_parts.proofs.Lists.{halts_at_nothing, halts_at_slash}
 use Rattle.form_parts.proofs.Following.{settles_follows, not_open}
-use Rattle.form_specification.proofs.Declaring.{part_of_front, declares_array, declares_plain}
+use Rattle.form_specification.proofs.Declaring.{declares_array, declares_plain}
+use Rattle.form_parts.proofs.Fronts.{part_of_front}
 use Rattle.form_specification.proofs.Blocks.{blank_block, block_named, entry_follows, entry_halts, is_entry, first_without, first_of_entry}
 use Rattle.form_specification.proofs.SavedParts.{saves_name, saves_block, saves_all, saves_some}
 use Rattle.form_specification.proofs.Letters.{one_letter, two_letters, is_rule, not_minus}

@@ -1,4 +1,4 @@
-use Rattle.form_specification.proofs.Declaring.{part_of_front, no_part_of_front}
+use Rattle.form_parts.proofs.Fronts.{part_of_front, no_part_of_front}
 use Rattle.form_execution.proofs.transfer.LabelPartPart.read.Goals as goal
 
 pub returns-in_default-clause-part : goal.returns-in_default-clause-part
