@@ -162,3 +162,42 @@ fn a_hundred_parentheses(rt: HostRuntime) -> Result<(), Fail> {
     assert_eq!(rt; found.as_slice(), b"ok 204 2 0".as_slice());
     Ok(())
 }
+
+/// `IF(e)RETURN`, whose condition has so many parentheses in each other.
+fn guarded(alloc: Global, depth: usize) -> Result<UnitText, AllocError> {
+    let mut text = List::from_slice(alloc, b"IF(".as_slice())?;
+    for _ in 0..depth {
+        text.push(b'(')?;
+    }
+    text.push(b'L')?;
+    for _ in 0..depth {
+        text.push(b')')?;
+    }
+    text.push(b')')?;
+    for b in b"RETURN".as_slice() {
+        text.push(*b)?;
+    }
+    let mut statements = List::new(alloc);
+    statements.push(Line {
+        label: 0,
+        line: 1,
+        text,
+    })?;
+    statements.push(line(alloc, 2, "END")?)?;
+    Ok(UnitText {
+        name: Name::from_list(List::from_slice(alloc, b"MAIN".as_slice())?),
+        statements,
+    })
+}
+
+// The parentheses of a logical IF itself count: with 101 in all it has no form, so that RETURN in a main program isn't
+// told; with 100 it is.
+#[test]
+fn a_hundred_parentheses_of_a_logical_if(rt: HostRuntime) -> Result<(), Fail> {
+    let alloc = rt.alloc();
+    let found = told(alloc, &guarded(alloc, 100)?)?;
+    assert_eq!(rt; found.as_slice(), b"11 1 0 MAIN".as_slice());
+    let found = told(alloc, &guarded(alloc, 99)?)?;
+    assert_eq!(rt; found.as_slice(), b"8 1 0 MAIN".as_slice());
+    Ok(())
+}
