@@ -6,8 +6,8 @@ use Rattle.std.proofs.lemmas.List.{drop_more}
 use Rattle.f77_tree.specs.declared.expr.Expr.{Expr}
 use Rattle.f77_tree.specs.declared.unit.Value.{Value}
 use Rattle.f77_store.specs.declared.areas.Place.{Place}
-use Rattle.f77_store.specs.Names.{Told, saturated, most}
-use Rattle.f77_store.specs.Sizes.{Bounds, extent}
+use Rattle.f77_values.specs.Tables.{Told, saturated, most}
+use Rattle.f77_values.specs.Sizes.{Bounds, extent}
 use Rattle.check_common.specs.declared.runs.Run.{Run}
 use Rattle.check_common.specs.Storage.{steps_in, joined, offset, run_from, element_run}
 

@@ -10,10 +10,10 @@ use Rattle.f77_tree.specs.declared.form.Form.TheOpen.{Form-F}
 use Rattle.f77_tree.specs.declared.unit.Stmt.{Stmt}
 use Rattle.f77_tree.specs.declared.unit.Unit.{Unit as SourceUnit}
 use Rattle.f77_tree.specs.declared.unit.Value.{Value}
-use Rattle.f77_store.specs.Blocks.{commons, places, size_of}
-use Rattle.f77_store.specs.Constants.{with_statement}
-use Rattle.f77_store.specs.Declarations.{declarations, shapes}
-use Rattle.f77_store.specs.Names.{Told, what}
+use Rattle.f77_store.specs.Areas.{commons, places, size_of}
+use Rattle.f77_values.specs.Constants.{with_statement}
+use Rattle.f77_names.specs.Declarations.{declarations, shapes}
+use Rattle.f77_values.specs.Tables.{Told, what}
 use Rattle.check_common.specs.declared.storage.Storage.{Storage}
 use Rattle.check_common.specs.declared.initials.Initial.{Initial}
 use Rattle.check_common.specs.Storage.{storage, whole_run, element_run, offset_in, item_run}

@@ -1,7 +1,7 @@
 -- A storage unit of a COMMON block gets an initial value in one program unit at most (ANSI X3.9-1978, sections 9.1 and 16.2).
 use Rattle.std.specs.Prelude.{◌≡◌, ℕ, ◌+◌, ◌<◌, ◌≤◌, min, max, Bool, true, ◌&&◌, nat_lt, List, Option, Some, None}
 use Rattle.std.specs.List.{Contains}
-use Rattle.f77_store.specs.Names.{name_eq}
+use Rattle.f77_values.specs.Tables.{name_eq}
 use Rattle.check_common.specs.declared.runs.Run.{Run}
 use Rattle.check_common.specs.declared.initials.Initial.{Initial}
 use Rattle.check_common.specs.declared.again.Again.{Again}

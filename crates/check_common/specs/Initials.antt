@@ -8,8 +8,8 @@ use Rattle.f77_tree.specs.declared.form.Form.TheOpen.{Form-F}
 use Rattle.f77_tree.specs.declared.unit.Stmt.{Stmt}
 use Rattle.f77_tree.specs.declared.unit.Unit.{Unit}
 use Rattle.f77_tree.specs.declared.unit.Value.{Value}
-use Rattle.f77_store.specs.Constants.{with_statement}
-use Rattle.f77_store.specs.Names.{Told}
+use Rattle.f77_values.specs.Constants.{with_statement}
+use Rattle.f77_values.specs.Tables.{Told}
 use Rattle.check_common.specs.declared.storage.Storage.{Storage}
 use Rattle.check_common.specs.declared.runs.Run.{Run}
 use Rattle.check_common.specs.declared.initials.Initial.{Initial}

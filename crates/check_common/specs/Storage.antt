@@ -8,12 +8,12 @@ use Rattle.f77_tree.specs.declared.unit.Unit.{Unit}
 use Rattle.f77_tree.specs.declared.unit.Value.{Value}
 use Rattle.f77_store.specs.declared.areas.Member.{Member}
 use Rattle.f77_store.specs.declared.areas.Place.{Place}
-use Rattle.f77_store.specs.declared.declarations.Shape.{Shape}
-use Rattle.f77_store.specs.Blocks.{commons, places, size_of}
-use Rattle.f77_store.specs.Constants.{constants, value_of}
-use Rattle.f77_store.specs.Declarations.{declarations, shapes}
-use Rattle.f77_store.specs.Names.{Name, Told, what, saturated, most}
-use Rattle.f77_store.specs.Sizes.{Bounds, whole, lower, upper, extent}
+use Rattle.f77_names.specs.declared.declarations.Shape.{Shape}
+use Rattle.f77_store.specs.Areas.{commons, places, size_of}
+use Rattle.f77_values.specs.Constants.{constants, value_of}
+use Rattle.f77_names.specs.Declarations.{declarations, shapes}
+use Rattle.f77_values.specs.Tables.{Name, Told, what, saturated, most}
+use Rattle.f77_values.specs.Sizes.{Bounds, whole, lower, upper, extent}
 use Rattle.check_common.specs.declared.storage.Storage.{Storage}
 use Rattle.check_common.specs.declared.runs.Run.{Run}
 

@@ -1,13 +1,15 @@
 //! What the units of a program initialise in COMMON.
 ghost use Rattle.std.specs.Prelude.{◌≡◌, [], ◌++◌, flat_map, IfOk, OnOk};
 ghost use Rattle.f77_tree.specs.declared.form.Form.TheViews.{out-Form};
-ghost use Rattle.f77_store.specs.Declarations as d;
+ghost use Rattle.f77_names.specs.Declarations as d;
 ghost use Rattle.check_common.specs.Initials as i;
 
 use super::runs::{Run, item_run};
 use super::storage::{Storage, storage_of};
-use f77_store::{Declaration, Table, commons_of, declarations_of, define_in};
+use f77_names::{Declaration, declarations_of};
+use f77_store::commons_of;
 use f77_tree::{DataConst, Expr, Form, List, Stmt, Unit, Value};
+use f77_values::{Table, define_in};
 use std::alloc::{AllocError, Global};
 
 /// Storage units of a COMMON block that a statement of DATA initialises, with its line and the place of its unit in the list.

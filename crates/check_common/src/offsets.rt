@@ -1,12 +1,12 @@
 //! How far the elements of an array are behind its first one.
 ghost use Rattle.std.specs.Prelude.{◌≡◌, ◌≤◌, ◌*◌, ◌^◌, ℕ, IfSome, Some};
 ghost use Rattle.std.specs.Option.{option_map};
-ghost use Rattle.f77_store.specs.Names.{saturated};
-ghost use Rattle.f77_store.specs.Sizes as z;
+ghost use Rattle.f77_values.specs.Tables.{saturated};
+ghost use Rattle.f77_values.specs.Sizes as z;
 ghost use Rattle.check_common.specs.Storage as s;
 
-use f77_store::{Table, evaluate};
 use f77_tree::{Expr, Value};
+use f77_values::{Table, evaluate};
 
 /// The number of a block's storage units that have a number.
 pub const MOST: u32 = u32::MAX;

@@ -2,13 +2,14 @@
 ghost use Rattle.std.specs.Prelude.{◌≡◌, ℕ, Option, Some, IfOk};
 ghost use Rattle.std.specs.Option.{option_map};
 ghost use Rattle.f77_tree.specs.declared.expr.Expr.{out-Expr};
-ghost use Rattle.f77_store.specs.Names.{what, saturated};
+ghost use Rattle.f77_values.specs.Tables.{what, saturated};
 ghost use Rattle.check_common.specs.Storage as s;
 
 use super::offsets::{MOST, offset};
 use super::storage::Storage;
-use f77_store::{Place, Table, size_of};
+use f77_store::{Place, size_of};
 use f77_tree::{Expr, List, Name, Value};
+use f77_values::Table;
 use std::alloc::{AllocError, Global};
 
 /// So many storage units of a block from one on, each below 4,294,967,295.

@@ -1,11 +1,13 @@
 //! Where a unit's members of COMMON blocks stand.
 ghost use Rattle.std.specs.Prelude.{◌≡◌, IfOk};
-ghost use Rattle.f77_store.specs.Blocks as b;
-ghost use Rattle.f77_store.specs.Declarations as d;
+ghost use Rattle.f77_store.specs.Areas as b;
+ghost use Rattle.f77_names.specs.Declarations as d;
 ghost use Rattle.check_common.specs.Storage as s;
 
-use f77_store::{Declaration, Member, Place, Shape, Table, constants_of, lay_out, shapes_of};
+use f77_names::{Declaration, Shape, shapes_of};
+use f77_store::{Member, Place, lay_out};
 use f77_tree::{List, Stmt, Unit, Value};
+use f77_values::{Table, constants_of};
 use std::alloc::{AllocError, Global};
 
 /// Where a unit's members of COMMON blocks stand, the shapes of its arrays, and its named constants.

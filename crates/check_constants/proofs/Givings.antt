@@ -9,9 +9,9 @@ use Rattle.f77_tree.specs.declared.expr.Expr.TheViews.{outs-Apply}
 use Rattle.f77_tree.specs.declared.expr.Expr.{Expr}
 use Rattle.f77_tree.specs.declared.unit.Stmt.{Stmt}
 use Rattle.f77_tree.specs.declared.unit.Value.{Value}
-use Rattle.f77_store.specs.Names.{Name, Told}
-use Rattle.f77_store.specs.Constants.{value_of}
-use Rattle.f77_store.specs.Sizes.{whole}
+use Rattle.f77_values.specs.Tables.{Name, Told}
+use Rattle.f77_values.specs.Constants.{value_of}
+use Rattle.f77_values.specs.Sizes.{whole}
 use Rattle.check_constants.specs.declared.given.Given.{Given}
 use Rattle.check_constants.specs.declared.given.Seen.{Seen}
 use Rattle.check_constants.specs.DataTwice.{meets, given_twice, subscripts, with_subscript, Past, past_with, statement_repeats}

@@ -6,7 +6,7 @@ use Rattle.f77_tree.specs.declared.expr.Expr.TheViews.{outs-Apply}
 use Rattle.f77_tree.specs.declared.expr.Expr.TheOpen.{Expr-F}
 use Rattle.f77_tree.specs.declared.expr.Expr.TheVariants.{Apply, rolls-Apply}
 use Rattle.f77_tree.specs.declared.unit.Value.{Value}
-use Rattle.f77_store.specs.Names.{Name, Told}
+use Rattle.f77_values.specs.Tables.{Name, Told}
 use Rattle.check_constants.specs.declared.expressions.Judged.{Judged}
 use Rattle.check_constants.specs.Expressions.{parts_step, is_made_of, judge_step, judged, plain}
 

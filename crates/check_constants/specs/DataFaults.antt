@@ -9,8 +9,8 @@ use Rattle.f77_tree.specs.declared.unit.Stmt.{Stmt}
 use Rattle.f77_tree.specs.declared.unit.UnitKind.{UnitKind}
 use Rattle.f77_tree.specs.declared.unit.Value.{Value}
 use Rattle.f77_store.specs.declared.areas.Place.{Place}
-use Rattle.f77_store.specs.declared.roles.Facts.{Facts}
-use Rattle.f77_store.specs.Names.{Told}
+use Rattle.f77_names.specs.declared.facts.Facts.{Facts}
+use Rattle.f77_values.specs.Tables.{Told}
 use Rattle.check_constants.specs.declared.defined.Defined.{Defined}
 use Rattle.check_constants.specs.declared.measures.Measured.{Measured}
 use Rattle.check_constants.specs.DataItems.{item_misplaced, item_outside, wrong_constant}

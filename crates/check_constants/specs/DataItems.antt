@@ -8,9 +8,9 @@ use Rattle.f77_tree.specs.declared.unit.UnitKind.TheVariants.{BlockData}
 use Rattle.f77_tree.specs.declared.unit.Value.{Value}
 use Rattle.f77_tree.specs.declared.unit.Value.TheVariants.{Integer, Logical}
 use Rattle.f77_store.specs.declared.areas.Place.{Place}
-use Rattle.f77_store.specs.Names.{Told, what}
-use Rattle.f77_store.specs.Constants.{value_of}
-use Rattle.f77_store.specs.Sizes.{whole}
+use Rattle.f77_values.specs.Tables.{Told, what}
+use Rattle.f77_values.specs.Constants.{value_of}
+use Rattle.f77_values.specs.Sizes.{whole}
 use Rattle.check_constants.specs.declared.defined.Defined.{Defined}
 use Rattle.check_constants.specs.declared.measures.Measured.{Measured}
 use Rattle.check_constants.specs.Needed.{is_constant}

@@ -9,10 +9,10 @@ use Rattle.f77_tree.specs.declared.unit.Ty.{Ty}
 use Rattle.f77_tree.specs.declared.unit.Ty.TheVariants as ty
 use Rattle.f77_tree.specs.declared.unit.Value.{Value}
 use Rattle.f77_tree.specs.declared.unit.Value.TheVariants.{Integer}
-use Rattle.f77_store.specs.declared.roles.Facts.{Facts}
-use Rattle.f77_store.specs.Names.{Told, what}
-use Rattle.f77_store.specs.Constants.{value_of}
-use Rattle.f77_store.specs.Roles.{type_of}
+use Rattle.f77_names.specs.declared.facts.Facts.{Facts}
+use Rattle.f77_values.specs.Tables.{Told, what}
+use Rattle.f77_values.specs.Constants.{value_of}
+use Rattle.f77_names.specs.Roles.{type_of}
 use Rattle.check_constants.specs.declared.measures.Measured.{Measured}
 use Rattle.check_constants.specs.declared.runs.Run.{Run}
 use Rattle.check_constants.specs.declared.runs.Runs.{Runs}

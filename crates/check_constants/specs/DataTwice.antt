@@ -11,9 +11,9 @@ use Rattle.f77_tree.specs.declared.form.Form.{Form, out-Form}
 use Rattle.f77_tree.specs.declared.form.Form.TheOpen.{Form-F}
 use Rattle.f77_tree.specs.declared.unit.Stmt.{Stmt}
 use Rattle.f77_tree.specs.declared.unit.Value.{Value}
-use Rattle.f77_store.specs.Names.{Name, Told, name_eq}
-use Rattle.f77_store.specs.Constants.{value_of}
-use Rattle.f77_store.specs.Sizes.{whole}
+use Rattle.f77_values.specs.Tables.{Name, Told, name_eq}
+use Rattle.f77_values.specs.Constants.{value_of}
+use Rattle.f77_values.specs.Sizes.{whole}
 use Rattle.check_constants.specs.declared.defined.Defined.{Defined}
 use Rattle.check_constants.specs.declared.given.Given.{Given}
 use Rattle.check_constants.specs.Defined.{nothing, with_statement}

@@ -4,8 +4,8 @@ use Rattle.f77_tree.specs.declared.expr.Expr.{Expr}
 use Rattle.f77_tree.specs.declared.form.Form.{Form, out-Form}
 use Rattle.f77_tree.specs.declared.form.Form.TheOpen.{Form-F}
 use Rattle.f77_tree.specs.declared.unit.Stmt.{Stmt}
-use Rattle.f77_store.specs.Names.{Name, with_name}
-use Rattle.f77_store.specs.Constants.{with_constant}
+use Rattle.f77_values.specs.Tables.{Name, with_name}
+use Rattle.f77_values.specs.Constants.{with_constant}
 use Rattle.check_constants.specs.declared.defined.Defined.{Defined}
 
 abbrev pub nothing : Defined

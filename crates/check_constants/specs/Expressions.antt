@@ -8,8 +8,8 @@ use Rattle.f77_tree.specs.declared.expr.Op.{Op}
 use Rattle.f77_tree.specs.declared.expr.Op.TheVariants.{Div}
 use Rattle.f77_tree.specs.declared.unit.Value.{Value}
 use Rattle.f77_tree.specs.declared.unit.Value.TheVariants.{Integer}
-use Rattle.f77_store.specs.Names.{Name, Told}
-use Rattle.f77_store.specs.Constants.{value_step, applied, operated}
+use Rattle.f77_values.specs.Tables.{Name, Told}
+use Rattle.f77_values.specs.Constants.{value_step, applied, operated}
 use Rattle.check_constants.specs.declared.expressions.Judged.{Judged}
 
 -- Integers, truth values, some names, parentheses and operators; no name with a list.

@@ -6,8 +6,8 @@ use Rattle.f77_tree.specs.declared.form.Form.{Form, out-Form}
 use Rattle.f77_tree.specs.declared.form.Form.TheOpen.{Form-F}
 use Rattle.f77_tree.specs.declared.unit.Stmt.{Stmt}
 use Rattle.f77_tree.specs.declared.unit.Value.{Value}
-use Rattle.f77_store.specs.Names.{Name, Told, what, with_told, saturated}
-use Rattle.f77_store.specs.Sizes.{lower, upper, elements}
+use Rattle.f77_values.specs.Tables.{Name, Told, what, with_told, saturated}
+use Rattle.f77_values.specs.Sizes.{lower, upper, elements}
 use Rattle.check_constants.specs.declared.defined.Defined.{Defined}
 use Rattle.check_constants.specs.declared.measures.Measured.{Measured}
 use Rattle.check_constants.specs.Defined.{nothing, with_statement}

@@ -12,12 +12,12 @@ use Rattle.f77_tree.specs.declared.unit.Stmt.{Stmt}
 use Rattle.f77_tree.specs.declared.unit.Ty.{Ty}
 use Rattle.f77_tree.specs.declared.unit.Ty.TheVariants.{Integer}
 use Rattle.f77_store.specs.declared.areas.Place.{Place}
-use Rattle.f77_store.specs.declared.roles.Facts.{Facts}
-use Rattle.f77_store.specs.declared.roles.Role.{Role}
-use Rattle.f77_store.specs.declared.roles.Role.TheVariants.{Scalar}
-use Rattle.f77_store.specs.Names.{Name, Told, is_among, what}
-use Rattle.f77_store.specs.Roles.{role, type_of}
-use Rattle.f77_store.specs.Sizes.{Bounds, lower, upper}
+use Rattle.f77_names.specs.declared.facts.Facts.{Facts}
+use Rattle.f77_names.specs.declared.roles.Role.{Role}
+use Rattle.f77_names.specs.declared.roles.Role.TheVariants.{Scalar}
+use Rattle.f77_values.specs.Tables.{Name, Told, is_among, what}
+use Rattle.f77_names.specs.Roles.{role, type_of}
+use Rattle.f77_values.specs.Sizes.{Bounds, lower, upper}
 use Rattle.check_constants.specs.declared.defined.Defined.{Defined}
 use Rattle.check_constants.specs.Defined.{with_definition}
 use Rattle.check_constants.specs.Expressions.{is_made_of, judged}

@@ -3,7 +3,7 @@ use Rattle.std.specs.Prelude.{◌≡◌, Bool, false, ◌&&◌, ◌||◌, Option
 use Rattle.std.specs.List.{list_any}
 use Rattle.std.specs.Ordering.{int_eq}
 use Rattle.std.specs.Cmp.Lexicographic.{pointwise}
-use Rattle.f77_store.specs.Names.{Name, name_eq, what}
+use Rattle.f77_values.specs.Tables.{Name, name_eq, what}
 use Rattle.check_constants.specs.declared.given.Given.{Given}
 use Rattle.check_constants.specs.declared.given.Seen.{Seen}
 use Rattle.check_constants.specs.DataTwice.{meets}

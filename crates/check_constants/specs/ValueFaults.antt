@@ -2,11 +2,11 @@
 use Rattle.std.specs.Prelude.{ℕ}
 use Rattle.f77_tree.specs.declared.unit.Unit.{Unit}
 use Rattle.f77_store.specs.declared.areas.Place.{Place}
-use Rattle.f77_store.specs.Names.{Told}
-use Rattle.f77_store.specs.Blocks.{commons}
-use Rattle.f77_store.specs.Declarations.{declarations}
+use Rattle.f77_values.specs.Tables.{Told}
+use Rattle.f77_store.specs.Areas.{commons}
+use Rattle.f77_names.specs.Declarations.{declarations}
 use Rattle.f77_store.specs.Layouts.{common_places}
-use Rattle.f77_store.specs.Roles.{facts}
+use Rattle.f77_names.specs.Roles.{facts}
 use Rattle.fault_marks.specs.declared.marks.Mark.{Mark}
 use Rattle.fault_marks.specs.Places.{ShowsAt}
 use Rattle.check_constants.specs.Defined.{nothing, with_statement}

@@ -8,8 +8,10 @@ use super::data_items::{item_misplaced, item_outside, wrong_constant};
 use super::defined::Defined;
 use super::measures::Measured;
 use super::runs::{constant_runs, differ, item_runs};
-use f77_store::{Facts, Place, Table};
+use f77_names::Facts;
+use f77_store::Place;
 use f77_tree::{DataConst, Expr, Form, List, Stmt, UnitKind, Value};
+use f77_values::Table;
 use std::alloc::{AllocError, Global};
 
 fn wrong_item(

@@ -2,17 +2,18 @@
 ghost use Rattle.std.specs.Prelude.{◌≡◌, pos};
 ghost use Rattle.std.specs.List.{list_any};
 ghost use Rattle.f77_tree.specs.declared.expr.Expr.{out-Expr};
-ghost use Rattle.f77_store.specs.Constants.{value_of};
-ghost use Rattle.f77_store.specs.Names.{what};
-ghost use Rattle.f77_store.specs.Sizes as s;
+ghost use Rattle.f77_values.specs.Constants.{value_of};
+ghost use Rattle.f77_values.specs.Tables.{what};
+ghost use Rattle.f77_values.specs.Sizes as s;
 ghost use Rattle.check_constants.specs.DataItems as m;
 ghost use Rattle.check_constants.specs.Needed as n;
 
 use super::defined::Defined;
 use super::measures::Measured;
 use super::needed::{is_constant, whole};
-use f77_store::{Place, Table, evaluate};
+use f77_store::Place;
 use f77_tree::{DataConst, Expr, List, Name, UnitKind, Value};
+use f77_values::{Table, evaluate};
 
 fn misplaced(kind: UnitKind, commons: &Table<Place>, name: &Name) -> bool
     ensures { result ≡ m.misplaced kind (what commons.now name.now) }

@@ -1,11 +1,11 @@
 //! The named constants that the text before a place defines.
 ghost use Rattle.std.specs.Prelude.{◌≡◌, fold, OnOk};
 ghost use Rattle.f77_tree.specs.declared.form.Form.TheViews.{out-Form};
-ghost use Rattle.f77_store.specs.Constants.{with_constant};
+ghost use Rattle.f77_values.specs.Constants.{with_constant};
 ghost use Rattle.check_constants.specs.Defined as m;
 
-use f77_store::{Names, Table, evaluate};
 use f77_tree::{Expr, Form, List, Name, Stmt, Value};
+use f77_values::{Names, Table, evaluate};
 use std::alloc::{AllocError, Global};
 
 /// The named constants that are defined so far, and the values of those that have one.

@@ -1,11 +1,11 @@
 //! What expressions are made of, and zero divisors in them.
 ghost use Rattle.std.specs.Prelude.{◌≡◌};
-ghost use Rattle.f77_store.specs.Arithmetic as a;
-ghost use Rattle.f77_store.specs.Constants as c;
+ghost use Rattle.f77_values.specs.Arithmetic as a;
+ghost use Rattle.f77_values.specs.Constants as c;
 ghost use Rattle.check_constants.specs.Expressions as x;
 
-use f77_store::{Table, deny, keep, negate, operate};
 use f77_tree::{Expr, Op, Value};
+use f77_values::{Table, deny, keep, negate, operate};
 
 /// The value of an expression, if it has one, and whether a zero divisor stands in it.
 #[derive(Clone, Copy, Drop)]

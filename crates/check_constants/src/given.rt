@@ -2,14 +2,14 @@
 ghost use Rattle.std.specs.Prelude.{◌≡◌, [], ◌++◌, List, flat_map, IfOk, OnOk, is_some};
 ghost use Rattle.f77_tree.specs.declared.expr.Expr.{out-Expr};
 ghost use Rattle.f77_tree.specs.declared.form.Form.TheViews.{out-Form};
-ghost use Rattle.f77_store.specs.Names.{what};
+ghost use Rattle.f77_values.specs.Tables.{what};
 ghost use Rattle.check_constants.specs.DataTwice as t;
 ghost use Rattle.check_constants.specs.Seen as s;
 
 use super::elements::{Elements, Subscripts};
 use super::needed::whole;
-use f77_store::{Table, evaluate};
 use f77_tree::{DataConst, Expr, Form, List as Items, Name, Value};
+use f77_values::{Table, evaluate};
 use std::alloc::{AllocError, Global};
 
 /// All of a name, or its element with these subscripts.

@@ -1,13 +1,13 @@
 //! The bounds of arrays, as far as they are constant.
 ghost use Rattle.std.specs.Prelude.{◌≡◌, [], fold, map, IfOk, OnOk, is_some};
 ghost use Rattle.f77_tree.specs.declared.form.Form.TheViews.{out-Form};
-ghost use Rattle.f77_store.specs.Names.{what};
+ghost use Rattle.f77_values.specs.Tables.{what};
 ghost use Rattle.check_constants.specs.Measures as m;
 
 use super::defined::{Defined, define_in};
 use super::needed::{lower, upper};
-use f77_store::{Bounds, Table, elements};
 use f77_tree::{Declarator, Expr, Form, List, Name, Stmt, Value};
+use f77_values::{Bounds, Table, elements};
 use std::alloc::{AllocError, Global};
 
 /// An array's lower and upper bounds, as far as they are constant, and its number of elements, at most 4,294,967,295, where all are.

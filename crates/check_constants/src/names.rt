@@ -1,12 +1,14 @@
 //! What names are in the whole unit.
 ghost use Rattle.std.specs.Prelude.{◌≡◌, slice_index, is_some};
-ghost use Rattle.f77_store.specs.Names as n;
-ghost use Rattle.f77_store.specs.Roles as r;
-ghost use Rattle.f77_store.specs.Types as t;
+ghost use Rattle.f77_values.specs.Tables as n;
+ghost use Rattle.f77_names.specs.Roles as r;
+ghost use Rattle.f77_names.specs.Types as t;
 ghost use Rattle.check_constants.specs.Needed as m;
 
-use f77_store::{Facts, Place, Table, is_function, is_intrinsic};
+use f77_names::{Facts, is_function, is_intrinsic};
+use f77_store::Place;
 use f77_tree::{List, Name, Ty, TypeWord};
+use f77_values::Table;
 
 fn initial(name: &Name) -> usize
     ensures { result ≡ slice_index name.now 0 }

@@ -3,8 +3,8 @@ ghost use Rattle.std.specs.Prelude.{◌≡◌, IfOk, OnOk, ℤ};
 ghost use Rattle.std.specs.List.{list_any};
 ghost use Rattle.f77_tree.specs.declared.expr.Expr.{out-Expr};
 ghost use Rattle.f77_tree.specs.declared.form.Form.TheViews.{out-Form};
-ghost use Rattle.f77_store.specs.Names.{is_among};
-ghost use Rattle.f77_store.specs.Sizes as s;
+ghost use Rattle.f77_values.specs.Tables.{is_among};
+ghost use Rattle.f77_values.specs.Sizes as s;
 ghost use Rattle.check_constants.specs.Defined as m;
 ghost use Rattle.check_constants.specs.Expressions as x;
 ghost use Rattle.check_constants.specs.Needed as n;
@@ -12,8 +12,10 @@ ghost use Rattle.check_constants.specs.Needed as n;
 use super::defined::{Defined, define};
 use super::expressions::judge;
 use super::names::is_adjustable;
-use f77_store::{Bounds, Facts, Names, Place, Table, evaluate};
+use f77_names::Facts;
+use f77_store::Place;
 use f77_tree::{DataConst, Declarator, Expr, Form, List, Name, Stmt, Value};
+use f77_values::{Bounds, Names, Table, evaluate};
 use std::alloc::{AllocError, Global};
 
 /// An integer value.

@@ -2,7 +2,7 @@
 ghost use Rattle.std.specs.Prelude.{◌≡◌, IfOk, OnOk};
 ghost use Rattle.fault_marks.specs.Earliest.{Earliest};
 ghost use Rattle.fault_marks.specs.Places.{ShowsAt};
-ghost use Rattle.f77_store.specs.Roles.{facts as facts_in};
+ghost use Rattle.f77_names.specs.Roles.{facts as facts_in};
 ghost use Rattle.check_constants.specs.DataFaults as f;
 ghost use Rattle.check_constants.specs.Defined as d;
 ghost use Rattle.check_constants.specs.Measures as m;
@@ -15,8 +15,10 @@ use super::defined::{Defined, define_in};
 use super::measures::{Measured, measures_of};
 use super::needed::statement_lacks;
 use super::repeats::repeat_fault;
-use f77_store::{Facts, Place, Table};
+use f77_names::Facts;
+use f77_store::Place;
 use f77_tree::{List, Stmt, Unit, UnitKind};
+use f77_values::Table;
 use fault_marks::{Mark, earliest_flagged, first_of};
 use std::alloc::{AllocError, Global};
 

@@ -1,15 +1,16 @@
 //! Items and constants of DATA in number and type.
 ghost use Rattle.std.specs.Prelude.{◌≡◌, ◌<◌, ◌≤◌, ◌+◌, ◌==◌, ◌&&◌, not, false, Bool, IfOk, length, drop, nat_lt};
 ghost use Rattle.f77_tree.specs.declared.expr.Expr.{out-Expr};
-ghost use Rattle.f77_store.specs.Constants.{value_of};
-ghost use Rattle.f77_store.specs.Names.{what};
+ghost use Rattle.f77_values.specs.Constants.{value_of};
+ghost use Rattle.f77_values.specs.Tables.{what};
 ghost use Rattle.check_constants.specs.DataRuns as m;
 ghost use Rattle.check_constants.specs.Pairing as p;
 
 use super::measures::Measured;
 use super::names::type_of;
-use f77_store::{Facts, Table, evaluate};
+use f77_names::Facts;
 use f77_tree::{DataConst, Expr, List, Name, Ty, Value};
+use f77_values::{Table, evaluate};
 use std::alloc::{AllocError, Global};
 
 /// So many elements or constants of one type.

@@ -2,7 +2,7 @@
 use Rattle.std.proofs.Common.{◌⊎◌, inl, inr}
 use Rattle.std.specs.declared.option.Option.{Option}
 use Rattle.f77_tree.specs.declared.unit.Unit.{Unit}
-use Rattle.f77_store.specs.declared.roles.Facts.{Facts}
+use Rattle.f77_names.specs.declared.facts.Facts.{Facts}
 use Rattle.fault_marks.specs.declared.marks.Mark.{Mark}
 use Rattle.fault_marks.specs.Earliest.{first_of, Earliest}
 use Rattle.fault_marks.proofs.Firsts.{mapped, either}

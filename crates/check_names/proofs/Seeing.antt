@@ -6,11 +6,11 @@ use Rattle.f77_tree.specs.declared.form.Form.TheViews.{out-Form}
 use Rattle.f77_tree.specs.declared.unit.Stmt.{Stmt}
 use Rattle.f77_tree.specs.declared.unit.Unit.{Unit}
 use Rattle.f77_tree.specs.declared.unit.Value.{Value}
-use Rattle.f77_store.specs.declared.attributes.Attributes.{Attributes}
-use Rattle.f77_store.specs.declared.roles.Facts.{Facts}
-use Rattle.f77_store.specs.Names.{Name, Told, with_name}
-use Rattle.f77_store.specs.Constants.{constants, with_statement}
-use Rattle.f77_store.specs.Occurrences.{Occurrences}
+use Rattle.f77_names.specs.declared.attributes.Attributes.{Attributes}
+use Rattle.f77_names.specs.declared.facts.Facts.{Facts}
+use Rattle.f77_values.specs.Tables.{Name, Told, with_name}
+use Rattle.f77_values.specs.Constants.{constants, with_statement}
+use Rattle.f77_names.specs.Occurrences.{Occurrences}
 use Rattle.check_names.specs.Places.{where_stands, before, in_text, occurrences_at}
 use Rattle.check_names.specs.Untyped.{names_in, seen_before, is_new_untyped, untyped_at}
 use Rattle.check_names.specs.LargeArrays.{has_large, large_at}

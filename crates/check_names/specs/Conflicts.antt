@@ -3,8 +3,8 @@ use Rattle.std.specs.Prelude.{ℕ, ◌==◌, Bool, false, ◌||◌, [], ◌∷�
 use Rattle.f77_tree.specs.declared.form.Form.TheViews.{out-Form}
 use Rattle.f77_tree.specs.declared.unit.Stmt.{Stmt}
 use Rattle.f77_tree.specs.declared.unit.Unit.{Unit}
-use Rattle.f77_store.specs.declared.attributes.Attributes.{Attributes}
-use Rattle.f77_store.specs.Names.{Name, name_eq}
+use Rattle.f77_names.specs.declared.attributes.Attributes.{Attributes}
+use Rattle.f77_values.specs.Tables.{Name, name_eq}
 use Rattle.check_names.specs.declared.attribute.Given.{Given}
 use Rattle.check_names.specs.declared.givings.Giving.{Giving}
 use Rattle.check_names.specs.Exclusions.{nothing, with_attribute, conflicts}

@@ -10,8 +10,8 @@ use Rattle.f77_tree.specs.declared.form.Form.{Form}
 use Rattle.f77_tree.specs.declared.form.Form.TheViews.{out-Form}
 use Rattle.f77_tree.specs.declared.form.Form.TheOpen.{Form-F}
 use Rattle.f77_tree.specs.declared.unit.Unit.{Unit}
-use Rattle.f77_store.specs.declared.attributes.Attributes.{Attributes}
-use Rattle.f77_store.specs.Names.{Name, is_among}
+use Rattle.f77_names.specs.declared.attributes.Attributes.{Attributes}
+use Rattle.f77_values.specs.Tables.{Name, is_among}
 use Rattle.check_names.specs.Places.{where_stands}
 
 abbrev pub is_dummy : Attributes → Name → Bool

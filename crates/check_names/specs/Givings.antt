@@ -10,13 +10,13 @@ use Rattle.f77_tree.specs.declared.form.DataConst.{DataConst}
 use Rattle.f77_tree.specs.declared.form.Form.{Form}
 use Rattle.f77_tree.specs.declared.form.Form.TheOpen.{Form-F}
 use Rattle.f77_tree.specs.declared.form.TypeWord.{TypeWord}
-use Rattle.f77_store.specs.declared.attributes.Attributes.{Attributes}
-use Rattle.f77_store.specs.declared.occurrences.Manner.{Manner}
-use Rattle.f77_store.specs.declared.occurrences.Manner.TheVariants as manner
-use Rattle.f77_store.specs.declared.occurrences.Occurrence.{Occurrence}
-use Rattle.f77_store.specs.Names.{Name}
-use Rattle.f77_store.specs.Intrinsics.{intrinsic_of}
-use Rattle.f77_store.specs.Roles.{is_applied, is_function}
+use Rattle.f77_names.specs.declared.attributes.Attributes.{Attributes}
+use Rattle.f77_names.specs.declared.occurrences.Manner.{Manner}
+use Rattle.f77_names.specs.declared.occurrences.Manner.TheVariants as manner
+use Rattle.f77_names.specs.declared.occurrences.Occurrence.{Occurrence}
+use Rattle.f77_values.specs.Tables.{Name}
+use Rattle.f77_names.specs.Intrinsics.{intrinsic_of}
+use Rattle.f77_names.specs.Roles.{is_applied, is_function}
 use Rattle.check_names.specs.declared.attribute.Attribute.{Attribute}
 use Rattle.check_names.specs.declared.attribute.Attribute.TheVariants.{ResultVariable, Dummy, Array, Constant, Subroutine, Procedure, Intrinsic, Function, Typed, Common, Item, Letter}
 use Rattle.check_names.specs.declared.givings.Giving.{Giving}

@@ -7,10 +7,10 @@ use Rattle.f77_tree.specs.declared.form.Form.TheViews.{out-Form}
 use Rattle.f77_tree.specs.declared.form.Form.TheOpen.{Form-F}
 use Rattle.f77_tree.specs.declared.unit.Unit.{Unit}
 use Rattle.f77_tree.specs.declared.unit.Value.{Value}
-use Rattle.f77_store.specs.declared.attributes.Attributes.{Attributes}
-use Rattle.f77_store.specs.Names.{Name, Told, is_among}
-use Rattle.f77_store.specs.Constants.{constants}
-use Rattle.f77_store.specs.Sizes.{elements}
+use Rattle.f77_names.specs.declared.attributes.Attributes.{Attributes}
+use Rattle.f77_values.specs.Tables.{Name, Told, is_among}
+use Rattle.f77_values.specs.Constants.{constants}
+use Rattle.f77_values.specs.Sizes.{elements}
 use Rattle.check_names.specs.Places.{where_stands}
 
 abbrev pub most_units : ℕ

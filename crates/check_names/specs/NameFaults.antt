@@ -1,8 +1,8 @@
 -- The faults of a unit on names and their attributes.
 use Rattle.std.specs.Prelude.{◌≡◌, true}
 use Rattle.f77_tree.specs.declared.unit.Unit.{Unit}
-use Rattle.f77_store.specs.declared.roles.Facts.{Facts}
-use Rattle.f77_store.specs.Roles.{facts}
+use Rattle.f77_names.specs.declared.facts.Facts.{Facts}
+use Rattle.f77_names.specs.Roles.{facts}
 use Rattle.fault_marks.specs.declared.marks.Mark.{Mark}
 use Rattle.fault_marks.specs.Places.{ShowsAt}
 use Rattle.check_names.specs.Conflicts.{conflicts_at}

@@ -2,7 +2,7 @@
 use Rattle.std.specs.Prelude.{ℕ, zero, suc, ◌==◌, Bool, true, false, List, [], ◌++◌, Option, Some, None, slice_get}
 use Rattle.f77_tree.specs.declared.unit.Stmt.{Stmt}
 use Rattle.f77_tree.specs.declared.unit.Unit.{Unit}
-use Rattle.f77_store.specs.Occurrences.{Occurrences, in_head, in_statement}
+use Rattle.f77_names.specs.Occurrences.{Occurrences, in_head, in_statement}
 
 -- what a statement has, where there is one
 abbrev pub where_stands : {A : Type 0} → A → (Stmt → A) → Option Stmt → A

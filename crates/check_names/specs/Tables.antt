@@ -1,6 +1,6 @@
 -- What names have been given, in a table.
 use Rattle.std.specs.Prelude.{Bool, false, ◌||◌, [], ◌∷◌, unwrap_or}
-use Rattle.f77_store.specs.Names.{Name, Told, what, with_told}
+use Rattle.f77_values.specs.Tables.{Name, Told, what, with_told}
 use Rattle.check_names.specs.declared.attribute.Given.{Given}
 use Rattle.check_names.specs.declared.givings.Giving.{Giving}
 use Rattle.check_names.specs.Exclusions.{nothing, with_attribute, conflicts}

@@ -4,13 +4,13 @@ use Rattle.std.specs.List.{list_any}
 use Rattle.f77_tree.specs.declared.unit.Unit.{Unit}
 use Rattle.f77_tree.specs.declared.unit.UnitKind.{UnitKind}
 use Rattle.f77_tree.specs.declared.unit.UnitKind.TheVariants.{Function}
-use Rattle.f77_store.specs.declared.attributes.Attributes.{Attributes}
-use Rattle.f77_store.specs.declared.occurrences.Occurrence.{Occurrence}
-use Rattle.f77_store.specs.declared.roles.Facts.{Facts}
-use Rattle.f77_store.specs.Names.{Name, name_eq, is_among, distinct}
-use Rattle.f77_store.specs.Occurrences.{Occurrences}
-use Rattle.f77_store.specs.Roles.{is_function, is_intrinsic}
-use Rattle.f77_store.specs.Types.{name_word, storage_type}
+use Rattle.f77_names.specs.declared.attributes.Attributes.{Attributes}
+use Rattle.f77_names.specs.declared.occurrences.Occurrence.{Occurrence}
+use Rattle.f77_names.specs.declared.facts.Facts.{Facts}
+use Rattle.f77_values.specs.Tables.{Name, name_eq, is_among, distinct}
+use Rattle.f77_names.specs.Occurrences.{Occurrences}
+use Rattle.f77_names.specs.Roles.{is_function, is_intrinsic}
+use Rattle.f77_names.specs.Types.{name_word, storage_type}
 use Rattle.check_names.specs.Places.{before, occurrences_at}
 
 abbrev pub is_function_kind : UnitKind → Bool

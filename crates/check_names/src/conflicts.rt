@@ -1,7 +1,7 @@
 //! Names that are given what excludes what they were given before.
 ghost use Rattle.std.specs.Prelude.{◌≡◌, ◌++◌, [], ◌||◌, fold, map, flat_map, length, IfOk, OnOk};
 ghost use Rattle.std.specs.List.{range_with_len};
-ghost use Rattle.f77_store.specs.Names as n;
+ghost use Rattle.f77_values.specs.Tables as n;
 ghost use Rattle.check_names.specs.Exclusions as x;
 ghost use Rattle.check_names.specs.Conflicts as c;
 ghost use Rattle.check_names.specs.Tables as t;
@@ -9,8 +9,9 @@ ghost use Rattle.check_names.specs.Tables as t;
 use super::attribute::{Given, conflicts, nothing, with_attribute};
 use super::givings::{Giving, push_form, push_occurrences};
 use super::texts::occurrences_in;
-use f77_store::{Attributes, Table};
+use f77_names::Attributes;
 use f77_tree::{List, Name, Stmt, Unit};
+use f77_values::Table;
 use std::alloc::{AllocError, Global};
 
 fn given_to(table: &Table<Given>, name: &Name) -> Given

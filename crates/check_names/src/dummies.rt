@@ -5,7 +5,7 @@ ghost use Rattle.f77_tree.specs.declared.expr.Expr.TheViews.{out-Expr};
 ghost use Rattle.f77_tree.specs.declared.form.Form.TheViews.{out-Form};
 ghost use Rattle.check_names.specs.Dummies as d;
 
-use f77_store::Attributes;
+use f77_names::Attributes;
 use f77_tree::{DataConst, Declarator, Expr, Form, List, Name, Unit};
 use std::alloc::{AllocError, Global};
 

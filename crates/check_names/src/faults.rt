@@ -1,6 +1,6 @@
 //! The first fault of a unit on names and their attributes.
 ghost use Rattle.std.specs.Prelude.{◌≡◌, IfOk};
-ghost use Rattle.f77_store.specs.Roles as r;
+ghost use Rattle.f77_names.specs.Roles as r;
 ghost use Rattle.fault_marks.specs.Earliest as e;
 ghost use Rattle.check_names.specs.NameFaults as f;
 
@@ -8,7 +8,7 @@ use super::conflicts::conflict_flags;
 use super::dummies::displaced_flags;
 use super::large_arrays::{MOST_UNITS, large_flags};
 use super::untyped::untyped_flags;
-use f77_store::Facts;
+use f77_names::Facts;
 use f77_tree::Unit;
 use fault_marks::{Mark, earliest_flagged, first_of};
 use std::alloc::{AllocError, Global};

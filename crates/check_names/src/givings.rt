@@ -2,11 +2,11 @@
 ghost use Rattle.std.specs.Prelude.{◌≡◌, ◌++◌, ◌∷◌, [], map, flat_map, IfOk, OnOk};
 ghost use Rattle.f77_tree.specs.declared.expr.Expr.TheViews.{out-Expr};
 ghost use Rattle.f77_tree.specs.declared.form.Form.TheViews.{out-Form};
-ghost use Rattle.f77_store.specs.Roles as r;
+ghost use Rattle.f77_names.specs.Roles as r;
 ghost use Rattle.check_names.specs.Givings as g;
 
 use super::attribute::Attribute;
-use f77_store::{Attributes, Manner, Occurrence, intrinsic_of, is_function};
+use f77_names::{Attributes, Manner, Occurrence, intrinsic_of, is_function};
 use f77_tree::{DataConst, Declarator, Expr, Form, List, Name, TypeWord};
 use std::alloc::{AllocError, Global};
 

@@ -3,11 +3,12 @@ ghost use Rattle.std.specs.Prelude.{◌≡◌, map, length, IfOk};
 ghost use Rattle.std.specs.List.{list_any, range_with_len};
 ghost use Rattle.std.specs.Option.{option_map};
 ghost use Rattle.f77_tree.specs.declared.form.Form.TheViews.{out-Form};
-ghost use Rattle.f77_store.specs.Names.{saturated};
+ghost use Rattle.f77_values.specs.Tables.{saturated};
 ghost use Rattle.check_names.specs.LargeArrays as l;
 
-use f77_store::{Attributes, Table, define_in, elements};
+use f77_names::Attributes;
 use f77_tree::{Declarator, Form, List, Name, Unit, Value};
+use f77_values::{Table, define_in, elements};
 use std::alloc::{AllocError, Global};
 
 /// The greatest number of storage units of one array.

@@ -1,9 +1,9 @@
 //! The names of one statement.
 ghost use Rattle.std.specs.Prelude.{◌≡◌, ◌∷◌, [], true, IfOk};
-ghost use Rattle.f77_store.specs.Occurrences as o;
+ghost use Rattle.f77_names.specs.Occurrences as o;
 ghost use Rattle.check_names.specs.Places as p;
 
-use f77_store::{Occurrence, occurrences_of};
+use f77_names::{Occurrence, occurrences_of};
 use f77_tree::{Duplicate, List, Stmt, Unit, UnitKind, blank_name};
 use std::alloc::{AllocError, Global};
 

@@ -1,51 +1,17 @@
 //! Names with a type other than INTEGER and LOGICAL.
-ghost use Rattle.std.specs.Prelude.{◌≡◌, fold, map, length, slice_index, is_some, IfOk, OnOk};
+ghost use Rattle.std.specs.Prelude.{◌≡◌, fold, map, length, IfOk, OnOk};
 ghost use Rattle.std.specs.List.{list_any, range_with_len};
-ghost use Rattle.f77_store.specs.Names as n;
-ghost use Rattle.f77_store.specs.Types as t;
+ghost use Rattle.f77_values.specs.Tables as n;
 ghost use Rattle.check_names.specs.Places as p;
 ghost use Rattle.check_names.specs.Untyped as u;
 
 use super::texts::occurrences_in;
-use f77_store::{Attributes, Facts, Names, Occurrence, Table, is_function, is_intrinsic};
-use f77_tree::{List, Name, Stmt, TypeWord, Unit, UnitKind};
+use f77_names::{
+    Attributes, Facts, Occurrence, is_function, is_intrinsic, name_word, storage_type,
+};
+use f77_tree::{List, Name, Stmt, Unit, UnitKind};
+use f77_values::Names;
 use std::alloc::{AllocError, Global};
-
-fn initial(name: &Name) -> usize
-    ensures { result ≡ slice_index name.now 0 }
-{
-    match name.as_bytes().first() {
-        Some(letter) => *letter as usize,
-        None => 0,
-    }
-}
-
-fn initial_word(letters: &List<TypeWord>, name: &Name) -> TypeWord
-    ensures { result ≡ t.initial_word letters.now name.now }
-{
-    match letters.as_slice().get(initial(name)) {
-        Some(word) => *word,
-        None => TypeWord::Real,
-    }
-}
-
-fn name_word(words: &Table<TypeWord>, letters: &List<TypeWord>, name: &Name) -> TypeWord
-    ensures { result ≡ t.name_word words.now letters.now name.now }
-{
-    match words.get(name) {
-        Some(word) => *word,
-        None => initial_word(letters, name),
-    }
-}
-
-fn is_stored(word: TypeWord) -> bool
-    ensures { result ≡ is_some (t.storage_type word) }
-{
-    match word {
-        TypeWord::Integer | TypeWord::Logical => true,
-        _ => false,
-    }
-}
 
 fn is_function_kind(kind: UnitKind) -> bool
     ensures { result ≡ u.is_function_kind kind }
@@ -79,8 +45,8 @@ fn has_type(unit: &Unit, a: &Attributes, name: &Name) -> bool
 fn lacks_type(unit: &Unit, facts: &Facts, name: &Name) -> bool
     ensures { result ≡ u.lacks_type unit.now facts.now name.now }
 {
-    has_type(unit, &facts.attributes, name)
-        & !is_stored(name_word(&facts.words, &facts.letters, name))
+    let word = name_word(&facts.words, &facts.letters, name);
+    has_type(unit, &facts.attributes, name) & storage_type(word).is_none()
 }
 
 fn is_new_untyped(unit: &Unit, facts: &Facts, seen: &Names, o: &Occurrence) -> bool

@@ -7,10 +7,10 @@ use Rattle.f77_tree.specs.declared.expr.Expr.TheOpen.{Expr-F}
 use Rattle.f77_tree.specs.declared.unit.Ty.{Ty}
 use Rattle.f77_tree.specs.declared.unit.Ty.TheVariants.{Integer, Logical}
 use Rattle.f77_tree.specs.declared.unit.Value.{Value}
-use Rattle.f77_store.specs.declared.roles.Facts.{Facts}
-use Rattle.f77_store.specs.Arithmetic.{negated, kept, denied}
-use Rattle.f77_store.specs.Constants.{applied, operated, value_step, value_of}
-use Rattle.f77_store.specs.Names.{Told}
+use Rattle.f77_names.specs.declared.facts.Facts.{Facts}
+use Rattle.f77_values.specs.Arithmetic.{negated, kept, denied}
+use Rattle.f77_values.specs.Constants.{applied, operated, value_step, value_of}
+use Rattle.f77_values.specs.Tables.{Told}
 use Rattle.check_types.specs.declared.exponents.Reckoned.{Reckoned}
 use Rattle.check_types.specs.declared.places.Place.{Place}
 use Rattle.check_types.specs.declared.places.Place.TheVariants as place

@@ -4,10 +4,10 @@ use Rattle.std.proofs.lemmas.Option.{slice_get-map}
 use Rattle.f77_tree.specs.declared.unit.Stmt.{Stmt}
 use Rattle.f77_tree.specs.declared.unit.Unit.{Unit as SourceUnit}
 use Rattle.f77_tree.specs.declared.unit.Value.{Value}
-use Rattle.f77_store.specs.declared.roles.Facts.{Facts}
-use Rattle.f77_store.specs.Constants.{with_statement}
-use Rattle.f77_store.specs.Names.{Told}
-use Rattle.f77_store.specs.Roles.{facts}
+use Rattle.f77_names.specs.declared.facts.Facts.{Facts}
+use Rattle.f77_values.specs.Constants.{with_statement}
+use Rattle.f77_values.specs.Tables.{Told}
+use Rattle.f77_names.specs.Roles.{facts}
 use Rattle.fault_marks.specs.declared.marks.Mark.{Mark}
 use Rattle.fault_marks.specs.Earliest.{first_of, Earliest}
 use Rattle.fault_marks.specs.Places.{ShowsAt, Flagged}

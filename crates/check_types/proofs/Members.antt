@@ -6,12 +6,12 @@ use Rattle.f77_tree.specs.declared.expr.Expr.{Expr, fold-roll-Expr}
 use Rattle.f77_tree.specs.declared.expr.Expr.TheOpen.{Expr-F}
 use Rattle.f77_tree.specs.declared.expr.Expr.TheVariants.{Apply, rolls-Apply}
 use Rattle.f77_tree.specs.declared.unit.Value.{Value}
-use Rattle.f77_store.specs.declared.roles.Facts.{Facts}
-use Rattle.f77_store.specs.Names.{Name, Told}
-use Rattle.f77_store.specs.Roles.{type_of}
+use Rattle.f77_names.specs.declared.facts.Facts.{Facts}
+use Rattle.f77_values.specs.Tables.{Name, Told}
+use Rattle.f77_names.specs.Roles.{type_of}
 use Rattle.check_types.specs.declared.places.Place.{Place}
 use Rattle.check_types.specs.declared.exponents.Reckoned.{Reckoned}
-use Rattle.check_types.specs.Standings.{standing_of, rank_of}
+use Rattle.f77_names.specs.Standings.{standing_of, rank_of}
 use Rattle.check_types.specs.Places.{wanted, member_place}
 use Rattle.check_types.specs.WrongTypes.{differs, is_miscalled, mistyped_step, is_mistyped}
 use Rattle.check_types.specs.Subscripts.{miscounts, miscounted_step, is_miscounted}

@@ -10,14 +10,14 @@ use Rattle.f77_tree.specs.declared.form.Form.TheOpen.{Form-F}
 use Rattle.f77_tree.specs.declared.unit.Ty.{Ty}
 use Rattle.f77_tree.specs.declared.unit.Ty.TheVariants.{Integer}
 use Rattle.f77_tree.specs.declared.unit.Value.{Value}
-use Rattle.f77_store.specs.declared.roles.Facts.{Facts}
-use Rattle.f77_store.specs.Names.{Name, Told}
-use Rattle.f77_store.specs.Roles.{type_of}
+use Rattle.f77_names.specs.declared.facts.Facts.{Facts}
+use Rattle.f77_values.specs.Tables.{Name, Told}
+use Rattle.f77_names.specs.Roles.{type_of}
 use Rattle.check_types.specs.declared.places.Place.{Place}
 use Rattle.check_types.specs.declared.places.Place.TheVariants.{Value as Valued, Actual, Named}
 use Rattle.check_types.specs.declared.breaks.Rule.{Rule}
 use Rattle.check_types.specs.declared.breaks.Rule.TheVariants.{Types, Subscripts, Scalars, Targets, Exponents}
-use Rattle.check_types.specs.Standings.{standing_of, is_array, is_scalar}
+use Rattle.f77_names.specs.Standings.{standing_of, is_array, is_scalar}
 use Rattle.check_types.specs.WrongTypes.{differs, is_mistyped, integers, truths}
 use Rattle.check_types.specs.Subscripts.{is_miscounted}
 use Rattle.check_types.specs.Scalars.{is_misplaced}

@@ -7,9 +7,9 @@ use Rattle.f77_tree.specs.declared.expr.Op.{Op}
 use Rattle.f77_tree.specs.declared.expr.Op.TheVariants.{Pow}
 use Rattle.f77_tree.specs.declared.unit.Value.{Value}
 use Rattle.f77_tree.specs.declared.unit.Value.TheVariants.{Integer, Logical}
-use Rattle.f77_store.specs.Arithmetic.{negated, kept, denied}
-use Rattle.f77_store.specs.Constants.{applied, operated}
-use Rattle.f77_store.specs.Names.{Told, what}
+use Rattle.f77_values.specs.Arithmetic.{negated, kept, denied}
+use Rattle.f77_values.specs.Constants.{applied, operated}
+use Rattle.f77_values.specs.Tables.{Told, what}
 use Rattle.check_types.specs.declared.exponents.Reckoned.{Reckoned}
 
 abbrev pub is_exponent : Option Value → Bool

@@ -7,10 +7,10 @@ use Rattle.f77_tree.specs.declared.expr.Op.{Op}
 use Rattle.f77_tree.specs.declared.expr.Op.TheVariants.{Pow, Mul, Div, Add, Sub, And, Or, Eqv, Neqv}
 use Rattle.f77_tree.specs.declared.unit.Ty.{Ty}
 use Rattle.f77_tree.specs.declared.unit.Ty.TheVariants.{Integer, Logical}
-use Rattle.f77_store.specs.declared.roles.Facts.{Facts}
-use Rattle.f77_store.specs.Names.{Name}
-use Rattle.f77_store.specs.Roles.{type_of}
-use Rattle.check_types.specs.Standings.{standing_of, is_called}
+use Rattle.f77_names.specs.declared.facts.Facts.{Facts}
+use Rattle.f77_values.specs.Tables.{Name}
+use Rattle.f77_names.specs.Roles.{type_of}
+use Rattle.f77_names.specs.Standings.{standing_of, is_called}
 
 -- the type of an operator's operands: relations compare integers
 abbrev pub takes : Op → Ty

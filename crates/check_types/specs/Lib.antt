@@ -1,4 +1,3 @@
-pub mod Standings
 pub mod ExpressionTypes
 pub mod Places
 pub mod WrongTypes

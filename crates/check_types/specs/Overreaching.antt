@@ -7,9 +7,9 @@ use Rattle.f77_tree.specs.declared.form.Form.TheOpen.{Form-F}
 use Rattle.f77_tree.specs.declared.form.Form.TheViews.{out-Form}
 use Rattle.f77_tree.specs.declared.unit.Stmt.{Stmt}
 use Rattle.f77_tree.specs.declared.unit.Value.{Value}
-use Rattle.f77_store.specs.declared.roles.Facts.{Facts}
-use Rattle.f77_store.specs.Constants.{with_constant, with_statement}
-use Rattle.f77_store.specs.Names.{Name, Told}
+use Rattle.f77_names.specs.declared.facts.Facts.{Facts}
+use Rattle.f77_values.specs.Constants.{with_constant, with_statement}
+use Rattle.f77_values.specs.Tables.{Name, Told}
 use Rattle.check_types.specs.declared.breaks.Rule.TheVariants.{Exponents}
 use Rattle.check_types.specs.Exponents.{has_wrong_exponent}
 use Rattle.check_types.specs.Breaks.{form_breaks}

@@ -2,8 +2,8 @@
 use Rattle.std.specs.Prelude.{Option, Some, None}
 use Rattle.f77_tree.specs.declared.unit.Ty.{Ty}
 use Rattle.f77_tree.specs.declared.unit.Ty.TheVariants.{Integer}
-use Rattle.check_types.specs.declared.standings.Standing.{Standing}
-use Rattle.check_types.specs.declared.standings.Standing.TheVariants as standing
+use Rattle.f77_names.specs.declared.standings.Standing.{Standing}
+use Rattle.f77_names.specs.declared.standings.Standing.TheVariants as standing
 use Rattle.check_types.specs.declared.places.Place.{Place}
 use Rattle.check_types.specs.declared.places.Place.TheVariants.{Value, Actual, Named}
 

@@ -4,11 +4,11 @@ use Rattle.std.specs.Prelude.{Bool, false, not, ◌||◌, ◌&&◌}
 use Rattle.std.specs.List.{list_any}
 use Rattle.f77_tree.specs.declared.expr.Expr.{Expr, fold-Expr}
 use Rattle.f77_tree.specs.declared.expr.Expr.TheOpen.{Expr-F}
-use Rattle.f77_store.specs.declared.roles.Facts.{Facts}
-use Rattle.f77_store.specs.Names.{Name, is_among}
+use Rattle.f77_names.specs.declared.facts.Facts.{Facts}
+use Rattle.f77_values.specs.Tables.{Name, is_among}
 use Rattle.check_types.specs.declared.places.Place.{Place}
 use Rattle.check_types.specs.declared.places.Place.TheVariants.{Value, Actual, Named}
-use Rattle.check_types.specs.Standings.{standing_of, is_called, is_array}
+use Rattle.f77_names.specs.Standings.{standing_of, is_called, is_array}
 use Rattle.check_types.specs.Places.{wanted, member_place}
 
 -- A name of EXTERNAL or INTRINSIC as an actual argument is told by the program (fault 35).

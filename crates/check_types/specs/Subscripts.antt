@@ -3,8 +3,8 @@ use Rattle.std.specs.Prelude.{ℕ, Bool, false, not, ◌||◌, ◌==◌, Option,
 use Rattle.std.specs.List.{list_any}
 use Rattle.f77_tree.specs.declared.expr.Expr.{Expr, fold-Expr}
 use Rattle.f77_tree.specs.declared.expr.Expr.TheOpen.{Expr-F}
-use Rattle.f77_store.specs.declared.roles.Facts.{Facts}
-use Rattle.check_types.specs.Standings.{rank_of}
+use Rattle.f77_names.specs.declared.facts.Facts.{Facts}
+use Rattle.f77_names.specs.Standings.{rank_of}
 
 -- so many subscripts, where the array has another number
 abbrev pub miscounts : Option ℕ → ℕ → Bool

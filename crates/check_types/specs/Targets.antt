@@ -5,9 +5,9 @@ use Rattle.f77_tree.specs.declared.expr.Expr.{Expr}
 use Rattle.f77_tree.specs.declared.expr.Expr.TheOpen.{Expr-F}
 use Rattle.f77_tree.specs.declared.expr.Expr.TheViews.{out-Expr}
 use Rattle.f77_tree.specs.declared.unit.Ty.{Ty}
-use Rattle.f77_store.specs.declared.roles.Facts.{Facts}
-use Rattle.f77_store.specs.Roles.{type_of}
-use Rattle.check_types.specs.Standings.{standing_of, is_array, is_scalar}
+use Rattle.f77_names.specs.declared.facts.Facts.{Facts}
+use Rattle.f77_names.specs.Roles.{type_of}
+use Rattle.f77_names.specs.Standings.{standing_of, is_array, is_scalar}
 
 abbrev pub type_at : Facts → Expr-F Expr → Option Ty
 type_at f (Expr-F.Scalar name) = type_of f name

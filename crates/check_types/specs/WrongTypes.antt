@@ -6,17 +6,17 @@ use Rattle.f77_tree.specs.declared.expr.Expr.{Expr, fold-Expr}
 use Rattle.f77_tree.specs.declared.expr.Expr.TheOpen.{Expr-F}
 use Rattle.f77_tree.specs.declared.unit.Ty.{Ty}
 use Rattle.f77_tree.specs.declared.unit.Ty.TheVariants.{Integer, Logical}
-use Rattle.f77_store.specs.declared.intrinsics.Intrinsic.{Intrinsic}
-use Rattle.f77_store.specs.declared.intrinsics.Intrinsic.TheVariants.{Abs, Mod, Sign, Dim, Max, Min}
-use Rattle.f77_store.specs.declared.roles.Facts.{Facts}
-use Rattle.f77_store.specs.Intrinsics.{intrinsic_of}
-use Rattle.f77_store.specs.Names.{Name}
-use Rattle.f77_store.specs.Roles.{type_of}
-use Rattle.check_types.specs.declared.standings.Standing.{Standing}
-use Rattle.check_types.specs.declared.standings.Standing.TheVariants as standing
+use Rattle.f77_names.specs.declared.intrinsics.Intrinsic.{Intrinsic}
+use Rattle.f77_names.specs.declared.intrinsics.Intrinsic.TheVariants.{Abs, Mod, Sign, Dim, Max, Min}
+use Rattle.f77_names.specs.declared.facts.Facts.{Facts}
+use Rattle.f77_names.specs.Intrinsics.{intrinsic_of}
+use Rattle.f77_values.specs.Tables.{Name}
+use Rattle.f77_names.specs.Roles.{type_of}
+use Rattle.f77_names.specs.declared.standings.Standing.{Standing}
+use Rattle.f77_names.specs.declared.standings.Standing.TheVariants as standing
 use Rattle.check_types.specs.declared.places.Place.{Place}
 use Rattle.check_types.specs.declared.places.Place.TheVariants.{Value}
-use Rattle.check_types.specs.Standings.{standing_of}
+use Rattle.f77_names.specs.Standings.{standing_of}
 use Rattle.check_types.specs.ExpressionTypes.{takes, gives, plain_type}
 use Rattle.check_types.specs.Places.{wanted, member_place}
 

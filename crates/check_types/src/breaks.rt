@@ -6,12 +6,12 @@ ghost use Rattle.check_types.specs.Breaks as b;
 use super::exponents::has_wrong_exponent;
 use super::places::Place;
 use super::scalars::is_misplaced;
-use super::standings::{is_array, is_scalar, name_type, standing_of};
 use super::subscripts::is_miscounted;
 use super::targets::{is_no_element, is_no_variable, target_type};
 use super::wrong_types::{differs, is_mistyped};
-use f77_store::{Bounds, Facts, Table};
+use f77_names::{Facts, is_array, is_scalar, name_type, standing_of};
 use f77_tree::{DataConst, Declarator, Expr, Form, List, Name, Ty, Value};
+use f77_values::{Bounds, Table};
 
 /// A rule on the expressions and targets of a unit.
 #[derive(Clone, Copy, Debug, Drop, PartialEq, Eq)]

@@ -1,12 +1,12 @@
 //! Exponents.
 ghost use Rattle.std.specs.Prelude.{◌≡◌};
 ghost use Rattle.std.specs.List.{list_any};
-ghost use Rattle.f77_store.specs.Arithmetic as m;
-ghost use Rattle.f77_store.specs.Constants as c;
+ghost use Rattle.f77_values.specs.Arithmetic as m;
+ghost use Rattle.f77_values.specs.Constants as c;
 ghost use Rattle.check_types.specs.Exponents as x;
 
-use f77_store::{Table, deny, keep, negate, operate};
 use f77_tree::{Expr, List, Op, Value};
+use f77_values::{Table, denied, kept, negated, operated};
 
 /// The value of an expression, if it is constant, and whether an exponent in it is no constant from 0 to 62.
 #[derive(Clone, Copy, Debug, Drop)]
@@ -39,42 +39,6 @@ fn is_no_exponent(op: Op, value: Option<Value>) -> bool
     match op {
         Op::Pow => !is_exponent(value),
         _ => false,
-    }
-}
-
-fn negated(value: Option<Value>) -> Option<Value>
-    ensures { result ≡ c.applied m.negated value }
-{
-    match value {
-        Some(value) => negate(value),
-        None => None,
-    }
-}
-
-fn kept(value: Option<Value>) -> Option<Value>
-    ensures { result ≡ c.applied m.kept value }
-{
-    match value {
-        Some(value) => keep(value),
-        None => None,
-    }
-}
-
-fn denied(value: Option<Value>) -> Option<Value>
-    ensures { result ≡ c.applied m.denied value }
-{
-    match value {
-        Some(value) => deny(value),
-        None => None,
-    }
-}
-
-fn operated(op: Op, left: Option<Value>, right: Option<Value>) -> Option<Value>
-    ensures { result ≡ c.operated op left right }
-{
-    match (left, right) {
-        (Some(x), Some(y)) => operate(op, x, y),
-        _ => None,
     }
 }
 

@@ -2,8 +2,7 @@
 ghost use Rattle.std.specs.Prelude.{◌≡◌};
 ghost use Rattle.check_types.specs.ExpressionTypes as x;
 
-use super::standings::{is_called, name_type, standing_of};
-use f77_store::Facts;
+use f77_names::{Facts, is_called, name_type, standing_of};
 use f77_tree::{Expr, Name, Op, Ty};
 
 /// The type of an operator's operands.

@@ -1,12 +1,13 @@
 //! Where exponents are wrong in a unit.
 ghost use Rattle.std.specs.Prelude.{◌≡◌, [], fold, IfOk, OnOk};
-ghost use Rattle.f77_store.specs.Constants as c;
+ghost use Rattle.f77_values.specs.Constants as c;
 ghost use Rattle.check_types.specs.Overreaching as o;
 
 use super::breaks::{Rule, form_breaks};
 use super::exponents::has_wrong_exponent;
-use f77_store::{Facts, Table, evaluate};
+use f77_names::Facts;
 use f77_tree::{Expr, Form, List, Name, Stmt, Value};
+use f77_values::{Table, evaluate};
 use std::alloc::{AllocError, Global};
 
 fn define(

@@ -2,7 +2,7 @@
 ghost use Rattle.std.specs.Prelude.{◌≡◌};
 ghost use Rattle.check_types.specs.Places as p;
 
-use super::standings::Standing;
+use f77_names::Standing;
 use f77_tree::Ty;
 
 /// Where an expression stands.

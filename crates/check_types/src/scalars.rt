@@ -4,8 +4,7 @@ ghost use Rattle.std.specs.List.{list_any};
 ghost use Rattle.check_types.specs.Scalars as s;
 
 use super::places::{Place, member_place, wanted};
-use super::standings::{is_array, is_called, standing_of};
-use f77_store::Facts;
+use f77_names::{Facts, is_array, is_called, standing_of};
 use f77_tree::{Expr, List, Name};
 
 fn is_passed(facts: &Facts, name: &Name) -> bool

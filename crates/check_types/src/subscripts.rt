@@ -3,8 +3,7 @@ ghost use Rattle.std.specs.Prelude.{◌≡◌};
 ghost use Rattle.std.specs.List.{list_any};
 ghost use Rattle.check_types.specs.Subscripts as s;
 
-use super::standings::rank_of;
-use f77_store::Facts;
+use f77_names::{Facts, rank_of};
 use f77_tree::{Expr, List};
 
 fn miscounts(rank: Option<usize>, n: usize) -> bool

@@ -2,8 +2,7 @@
 ghost use Rattle.std.specs.Prelude.{◌≡◌};
 ghost use Rattle.check_types.specs.Targets as t;
 
-use super::standings::{is_array, is_scalar, name_type, standing_of};
-use f77_store::Facts;
+use f77_names::{Facts, is_array, is_scalar, name_type, standing_of};
 use f77_tree::{Expr, Ty};
 
 /// The type of a target is its name's.

@@ -1,13 +1,13 @@
 //! The first fault of a unit in its expressions and targets.
 ghost use Rattle.std.specs.Prelude.{◌≡◌, map, IfOk};
-ghost use Rattle.f77_store.specs.Roles as r;
+ghost use Rattle.f77_names.specs.Roles as r;
 ghost use Rattle.fault_marks.specs.Earliest as e;
 ghost use Rattle.fault_marks.specs.Places as p;
 ghost use Rattle.check_types.specs.TypeFaults as t;
 
 use super::breaks::{Rule, form_breaks};
 use super::overreaching::exponent_flags;
-use f77_store::Facts;
+use f77_names::Facts;
 use f77_tree::{List, Stmt, Unit};
 use fault_marks::{Mark, earliest_flagged, first_of};
 use std::alloc::{AllocError, Global};

@@ -5,8 +5,7 @@ ghost use Rattle.check_types.specs.WrongTypes as w;
 
 use super::expression_types::{gives, plain_type, takes};
 use super::places::{Place, member_place, wanted};
-use super::standings::{Standing, name_type, standing_of};
-use f77_store::{Facts, Intrinsic, intrinsic_of};
+use f77_names::{Facts, Intrinsic, Standing, intrinsic_of, name_type, standing_of};
 use f77_tree::{Expr, List, Name, Ty};
 
 /// Whether two types differ. What has no type differs from none.

@@ -1,7 +1,7 @@
 //! The first fault of a unit.
 ghost use Rattle.std.specs.Prelude.{◌≡◌, IfOk, IfErr};
-ghost use Rattle.f77_store.specs.Declarations.{declarations as declared};
-ghost use Rattle.f77_store.specs.Roles.{facts as facts_in};
+ghost use Rattle.f77_names.specs.Declarations.{declarations as declared};
+ghost use Rattle.f77_names.specs.Roles.{facts as facts_in};
 ghost use Rattle.fault_marks.specs.Earliest.{Earliest};
 ghost use Rattle.check_jumps.specs.Faults.{JumpFaults};
 ghost use Rattle.check_constants.specs.ValueFaults.{ValueFaults};
@@ -11,9 +11,8 @@ use check_constants::value_fault;
 use check_jumps::jump_fault;
 use check_names::name_fault;
 use check_types::type_fault;
-use f77_store::{
-    Declaration, Facts, commons_of, declarations_of, facts_of, lay_out, occurrences_of,
-};
+use f77_names::{Declaration, Facts, declarations_of, facts_of, occurrences_of};
+use f77_store::{commons_of, lay_out};
 use f77_tree::{List, Refused, Stmt, Unit};
 use fault_marks::{Mark, first_of, refusal};
 use std::alloc::{AllocError, Global};

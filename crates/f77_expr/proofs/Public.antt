@@ -93,8 +93,10 @@ by_length {s = s} suffix = subst (λ ts. drop (length ts - length s) ts ≡ s) (
 dropped : (ts : Tokens) (from : ℕ) → from ≤ length ts → Suffix ts (drop from ts)
 dropped ts from h = record { front = take from ts; is = sym (take-append-drop from ts) }
 
-pub best_at : (ts : Tokens) (from : ℕ) {s : Tokens} {x : Expr} → from ≤ length ts → Best r.Equivalence (drop from ts) x s → LongestAt ts from x (length ts - length s)
-best_at ts from {s} {x} h best =
+-- an expression begins at a token, so its place is before the end
+pub best_at : (ts : Tokens) (from : ℕ) {s : Tokens} {x : Expr} → Best r.Equivalence (drop from ts) x s → LongestAt ts from x (length ts - length s)
+best_at ts from {s} {x} best =
+    let h : from ≤ length ts = omega (arith, best.shorter, length-drop from ts) in
     let whole = suffix_more (dropped ts from h) (reads_suffix best.reads) in
     record {
       within = omega arith;

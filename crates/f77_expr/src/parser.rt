@@ -349,20 +349,27 @@ pub fn leading_expression(
     Ok(Some((found, rest)))
 }
 
+/// The tokens from `from` on, which are none behind the end.
+fn behind(tokens: &[Token], from: usize) -> &[Token]
+    ensures { result.now ≡ drop from tokens.now }
+{
+    let (_, rest) = tokens.split_at(from.min(tokens.len()));
+    rest
+}
+
 /// The longest expression that begins at `from`, and the index behind it; or fault 11 where more than 100 parentheses
-/// stand in each other from there on, else 6 where no expression begins there.
+/// stand in each other from there on, else 6 where no expression begins there, as behind the end of the tokens.
 pub fn expression(
     alloc: Global,
     tokens: &[Token],
     from: usize,
     at: &Place,
 ) -> Result<(Expr, usize), Refused>
-    requires { from ≤ length tokens.now }
     ensures depth { IfOk result (λ x. d.deepest (drop from tokens.now) ≤ 100) }
     ensures longest { IfOk result (λ x. s.LongestAt tokens.now from x.0 x.1) }
     ensures fault { IfErr result (λ e. s.ExplainsNone e at.now (drop from tokens.now)) }
 {
-    let (_, rest) = tokens.split_at(from);
+    let rest = behind(tokens, from);
     if depth(rest) > DEEPEST {
         return Err(Refused::Fault(fault_at(alloc, 11, at)?));
     }

@@ -7,18 +7,19 @@ use Rattle.f77_expr.specs.Spelling.{Text}
 use Rattle.f77_expr.specs.Kinds.{Tokens}
 use Rattle.fixed_form.specs.Heads.{Lacks}
 use Rattle.fixed_form.proofs.WordRuns.{false_true}
-use Rattle.f77_forms.specs.declared.keywords.Keyword.{Keyword}
-use Rattle.f77_forms.specs.declared.statement_kinds.StatementKind.{StatementKind}
-use Rattle.f77_forms.specs.declared.statement_kinds.StatementKind.TheVariants as kind
-use Rattle.f77_forms.specs.Answers.{AreTokens, InTokens}
-use Rattle.f77_forms.specs.Only.{Sole, Never}
-use Rattle.f77_forms.specs.StatementKinds.{IsIf, NoIf, IsKind}
-use Rattle.f77_forms.specs.Keywords.{keyword_of, behind}
+use Rattle.form_kinds.specs.declared.keywords.Keyword.{Keyword}
+use Rattle.form_kinds.specs.declared.statement_kinds.StatementKind.{StatementKind}
+use Rattle.form_kinds.specs.declared.statement_kinds.StatementKind.TheVariants as kind
+use Rattle.form_parts.specs.Answers.{AreTokens, InTokens}
+use Rattle.form_parts.specs.Only.{Sole, Never}
+use Rattle.form_kinds.specs.StatementKinds.{IsIf, NoIf, IsKind}
+use Rattle.form_kinds.specs.Keywords.{keyword_of, behind}
 use Rattle.f77_forms.specs.HeadForms.{IsHeadForm}
-use Rattle.f77_forms.specs.Control.{IsExpression}
+use Rattle.f77_forms.specs.TooDeep.{IsTooDeep}
+use Rattle.form_parts.specs.Parts.{IsExpression}
 use Rattle.f77_forms.specs.Forms.{WordForm, IsWorded, head, by_word, BehindIf, KindForm, HasPlainForm, is_action, HasAction, IsLogicalIf, IsConditional, HasForm, plain, logical_if}
-use Rattle.f77_forms.proofs.Answered.{sole_in, never_in, never_tokens}
-use Rattle.f77_forms.proofs.KindTests.{kind_same, if_same}
+use Rattle.form_parts.proofs.Answered.{sole_in, never_in, never_tokens}
+use Rattle.form_kinds.proofs.KindTests.{kind_same, if_same}
 
 -- ---- words and heads
 
@@ -129,17 +130,20 @@ logical_same {inner = inner} cut acts c l =
 pub never_cut : {text : Text} → NoIf text → Never IsLogicalIf text
 never_cut none = record { not = λ y l. none.not l.condition l.statement l.cut }
 
+pub never_deep : {text : Text} → IsTooDeep text → Never IsLogicalIf text
+never_deep deep = record { not = λ y l. l.shallow deep }
+
 pub never_inner : {text condition statement : Text} → IsIf text condition statement → Never HasAction statement → Never IsLogicalIf text
 never_inner cut never = record { not = λ y l. never.not l.inner (if_statement cut l) }
 
-pub found_conditional : {text condition statement : Text} {inner : Form} (r : Result (Option Form) AllocError) → IsIf text condition statement → Sole HasAction statement inner →
+pub found_conditional : {text condition statement : Text} {inner : Form} (r : Result (Option Form) AllocError) → (IsTooDeep text → ⊥) → IsIf text condition statement → Sole HasAction statement inner →
     IfOk r (λ found. MatchOption found (Never (InTokens IsExpression) condition) (λ form. IsConditional condition inner form)) → IfOk r (λ found. MatchOption found (Never IsLogicalIf text) (λ form. Sole IsLogicalIf text form))
-found_conditional (Ok None) cut acts h = record { not = λ y l. h.not l.test (if_condition cut l) }
-found_conditional {condition = condition} {statement = statement} {inner = inner} (Ok (Some form)) cut acts h = record {
-  is = record { condition = condition; statement = statement; test = h.test; inner = inner; cut = cut; is_test = h.is_test.is; is_inner = acts.is; made = h.made };
+found_conditional (Ok None) shallow cut acts h = record { not = λ y l. h.not l.test (if_condition cut l) }
+found_conditional {condition = condition} {statement = statement} {inner = inner} (Ok (Some form)) shallow cut acts h = record {
+  is = record { condition = condition; statement = statement; test = h.test; inner = inner; cut = cut; is_test = h.is_test.is; is_inner = acts.is; shallow = shallow; made = h.made };
   only = λ y l. logical_same cut acts h l;
 }
-found_conditional (Err x) cut acts h = tt
+found_conditional (Err x) shallow cut acts h = tt
 
 -- ---- all forms
 

@@ -12,10 +12,10 @@ use Rattle.f77_expr.specs.Spelling.{Text}
 use Rattle.fixed_form.specs.Heads.{Lacks}
 use Rattle.fixed_form.specs.Words.{Stops, IsRun}
 use Rattle.fixed_form.proofs.WordRuns.{Same, word_same, run_stops, name_word, false_true}
-use Rattle.f77_forms.specs.Only.{Sole, Never}
+use Rattle.form_parts.specs.Only.{Sole, Never}
 use Rattle.f77_forms.specs.HeadForms.{AreNamesIn, last_name, next_name, AreDummies, no_names, some_names, IsNamedList, IsProgram, IsSubroutine, bare, listed, type_spelling, IsFunction, IsBlock, named, nameless, IsHeadForm, program, subroutine, function, block, type_at, first_byte, IsFrontName, NoFrontName}
-use Rattle.f77_forms.proofs.KindTests.{name_first}
-use Rattle.f77_forms.proofs.Places.{tail_same}
+use Rattle.form_kinds.proofs.KindTests.{name_first}
+use Rattle.form_kinds.proofs.Places.{tail_same}
 
 -- ---- names between commas
 

@@ -8,37 +8,38 @@ use Rattle.f77_expr.specs.Spelling.{Text}
 use Rattle.f77_expr.specs.Kinds.{Tokens, IsNext}
 use Rattle.f77_expr.specs.Grammar.{ReadsExpression}
 use Rattle.f77_expr.proofs.Unique.{lexes_same}
-use Rattle.f77_forms.specs.declared.keywords.Keyword.{Keyword}
-use Rattle.f77_forms.specs.declared.keywords.Keyword.TheVariants as word
-use Rattle.f77_forms.specs.declared.statement_kinds.StatementKind.{StatementKind}
-use Rattle.f77_forms.specs.declared.statement_kinds.StatementKind.TheVariants as kind
-use Rattle.f77_forms.specs.Answers.{InTokens, Made}
-use Rattle.f77_forms.specs.Only.{Follows, equals, OnlyPart, OnlyFront, Sole}
+use Rattle.form_kinds.specs.declared.keywords.Keyword.{Keyword}
+use Rattle.form_kinds.specs.declared.keywords.Keyword.TheVariants as word
+use Rattle.form_kinds.specs.declared.statement_kinds.StatementKind.{StatementKind}
+use Rattle.form_kinds.specs.declared.statement_kinds.StatementKind.TheVariants as kind
+use Rattle.form_parts.specs.Answers.{InTokens, Made}
+use Rattle.form_parts.specs.Only.{Follows, equals, OnlyPart, OnlyFront, Sole}
 use Rattle.f77_forms.specs.HeadForms.{AreNamesIn, last_name, next_name, AreDummies, no_names, some_names, IsNamedList, IsSubroutine, bare, listed, IsFunction, IsBlock, named, nameless, first_byte, IsHeadForm, program, subroutine, function, block}
-use Rattle.f77_forms.specs.Control.{IsCondition, IsExpression, IsTest, IsRange, by_one, by_step, IsDoForm}
-use Rattle.f77_forms.specs.Transfer.{call_of, IsLabel, IsComputedGoTo, IsGoTo, plain, computed, IsArithmeticIf, IsCall}
-use Rattle.f77_forms.specs.InputOutput as io
-use Rattle.f77_forms.specs.InputOutput.{IsItem, IsPrint, IsRead}
-use Rattle.f77_forms.specs.Assignment.{IsAssignment}
+use Rattle.form_execution.specs.Control.{IsCondition, IsTest, IsRange, by_one, by_step, IsDoForm}
+use Rattle.form_parts.specs.Parts.{IsExpression}
+use Rattle.form_execution.specs.Transfer.{call_of, IsLabel, IsComputedGoTo, IsGoTo, plain, computed, IsArithmeticIf, IsCall}
+use Rattle.form_execution.specs.InputOutput as io
+use Rattle.form_execution.specs.InputOutput.{IsItem, IsPrint, IsRead}
+use Rattle.form_execution.specs.Assignment.{IsAssignment}
 use Rattle.f77_forms.specs.Forms as t
 use Rattle.f77_forms.specs.Laws.{OneForm, OneKind}
-use Rattle.f77_forms.specs.StatementKinds.{IsKind}
+use Rattle.form_kinds.specs.StatementKinds.{IsKind}
 use Rattle.f77_tree.specs.Names.{is_name}
 use Rattle.f77_tree.specs.declared.unit.UnitKind.TheVariants as unit
 use Rattle.fixed_form.proofs.WordRuns.{word_same, name_word}
 use Rattle.f77_forms.proofs.FormTables.{word_in}
 use Rattle.f77_forms.specs.Forms.{WordForm, save_of, IsWorded, BehindIf, KindForm, HasPlainForm, is_action, HasAction, IsLogicalIf, HasForm}
-use Rattle.f77_forms.proofs.Bounds.{settles_at}
-use Rattle.f77_forms.proofs.NextToken.{next_shorter, same_rest}
-use Rattle.f77_forms.proofs.OneParts.{Readings, one_whole, one_enclosed, one_expression, one_variable}
-use Rattle.f77_forms.proofs.OneForms.{one_declarators, one_arrays, one_common, one_parameter, one_names, one_save, one_implicit, one_data}
-use Rattle.f77_forms.proofs.Declaring.{part_of_front}
-use Rattle.f77_forms.proofs.Answered.{sole_in, sole_tokens, sole_expression}
-use Rattle.f77_forms.proofs.Conditions.{sole_test, sole_two, sole_three, sole_do}
-use Rattle.f77_forms.proofs.Transfers.{label_no_open, label_front, sole_plain, sole_computed, go_plain, sole_arithmetic}
-use Rattle.f77_forms.proofs.InputsOutputs.{item_literal, no_text, sole_alone, sole_listed, sole_read, sole_assignment}
+use Rattle.form_parts.proofs.Following.{settles_at}
+use Rattle.form_parts.proofs.NextToken.{next_shorter, same_rest}
+use Rattle.form_parts.proofs.OneParts.{Readings, one_whole, one_enclosed, one_expression, one_variable}
+use Rattle.form_specification.proofs.OneForms.{one_declarators, one_arrays, one_common, one_parameter, one_names, one_save, one_implicit, one_data}
+use Rattle.form_parts.proofs.Fronts.{part_of_front}
+use Rattle.form_parts.proofs.Answered.{sole_in, sole_tokens, sole_expression}
+use Rattle.form_execution.proofs.Conditions.{sole_test, sole_two, sole_three, sole_do}
+use Rattle.form_execution.proofs.Transfers.{label_no_open, label_front, sole_plain, sole_computed, go_plain, sole_arithmetic}
+use Rattle.form_execution.proofs.InputsOutputs.{item_literal, no_text, sole_alone, sole_listed, sole_read, sole_assignment}
 use Rattle.f77_forms.proofs.HeadParts.{names_last, names_more, sole_none, pair, list_stops, program_name, subroutine_rest, named_no_list, function_typed, function_cut, function_rest, block_rest, subroutine_first, block_first, only_program, only_subroutine, only_block, only_function, letters}
-use Rattle.f77_forms.proofs.KindTests.{kind_same, if_same}
+use Rattle.form_kinds.proofs.KindTests.{kind_same, if_same}
 
 -- ---- parts
 

@@ -7,22 +7,24 @@ use Rattle.f77_tree.specs.declared.form.Form.TheVariants as f
 use Rattle.f77_tree.specs.declared.unit.Ty.TheVariants as ty
 use Rattle.f77_expr.specs.Spelling.{Text}
 use Rattle.f77_expr.specs.Kinds.{Tokens}
-use Rattle.f77_forms.specs.declared.keywords.Keyword.{Keyword}
-use Rattle.f77_forms.specs.declared.keywords.Keyword.TheVariants as word
-use Rattle.f77_forms.specs.declared.statement_kinds.StatementKind.{StatementKind}
-use Rattle.f77_forms.specs.declared.statement_kinds.StatementKind.TheVariants as kind
-use Rattle.f77_forms.specs.Answers.{InTokens, Made}
-use Rattle.f77_forms.specs.Only.{Never, Sole}
-use Rattle.f77_forms.specs.StatementKinds.{IsIf, IsKind}
-use Rattle.f77_forms.specs.Keywords.{keyword_of, behind}
+use Rattle.form_kinds.specs.declared.keywords.Keyword.{Keyword}
+use Rattle.form_kinds.specs.declared.keywords.Keyword.TheVariants as word
+use Rattle.form_kinds.specs.declared.statement_kinds.StatementKind.{StatementKind}
+use Rattle.form_kinds.specs.declared.statement_kinds.StatementKind.TheVariants as kind
+use Rattle.form_parts.specs.Answers.{InTokens, Made}
+use Rattle.form_parts.specs.Only.{Never, Sole}
+use Rattle.form_kinds.specs.StatementKinds.{IsIf, IsKind}
+use Rattle.form_kinds.specs.Keywords.{keyword_of, behind}
 use Rattle.f77_forms.specs.HeadForms.{IsHeadForm}
-use Rattle.f77_forms.specs.Declarators.{AreDeclarators, AreArrays}
-use Rattle.f77_forms.specs.Specifications.{IsCommon, IsParameter, AreNames, IsSave, IsImplicit}
-use Rattle.f77_forms.specs.DataForms.{IsData}
-use Rattle.f77_forms.specs.Assignment.{IsAssignment}
-use Rattle.f77_forms.specs.Control.{IsBare, IsTest, IsExpression, IsDoForm}
-use Rattle.f77_forms.specs.Transfer.{IsGoTo, IsArithmeticIf, IsStop, IsCall}
-use Rattle.f77_forms.specs.InputOutput.{IsPrint, IsRead}
+use Rattle.f77_forms.specs.TooDeep.{IsTooDeep}
+use Rattle.form_specification.specs.Declarators.{AreDeclarators, AreArrays}
+use Rattle.form_specification.specs.Specifications.{IsCommon, IsParameter, AreNames, IsSave, IsImplicit}
+use Rattle.form_specification.specs.DataForms.{IsData}
+use Rattle.form_execution.specs.Assignment.{IsAssignment}
+use Rattle.form_execution.specs.Control.{IsBare, IsTest, IsDoForm}
+use Rattle.form_parts.specs.Parts.{IsExpression}
+use Rattle.form_execution.specs.Transfer.{IsGoTo, IsArithmeticIf, IsStop, IsCall}
+use Rattle.form_execution.specs.InputOutput.{IsPrint, IsRead}
 
 abbrev pub save_of : List (List ℕ) × List (List ℕ) → Form
 save_of all = f.Save all.0 all.1
@@ -98,7 +100,7 @@ pub record HasAction (text : Text) (form : Form) : Type 0 where
   pub plain : HasPlainForm text form
   pub action : is_action form ≡ true
 
--- IF(e)s
+-- IF(e)s. Its condition and its statement are read apart, so the depth of parentheses is asked of the whole.
 pub record IsLogicalIf (text : Text) (form : Form) : Type 0 where
   pub condition : Text
   pub statement : Text
@@ -107,6 +109,7 @@ pub record IsLogicalIf (text : Text) (form : Form) : Type 0 where
   pub cut : IsIf text condition statement
   pub is_test : InTokens IsExpression condition test
   pub is_inner : HasAction statement inner
+  pub shallow : IsTooDeep text → ⊥
   pub made : form ≡ f.LogicalIf test inner
 
 -- a logical IF of the condition in a text

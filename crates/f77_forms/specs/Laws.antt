@@ -2,8 +2,8 @@
 use Rattle.std.specs.Prelude.{◌≡◌}
 use Rattle.f77_tree.specs.declared.form.Form.{Form}
 use Rattle.f77_expr.specs.Spelling.{Text}
-use Rattle.f77_forms.specs.StatementKinds.{IsKind}
-use Rattle.f77_forms.specs.declared.statement_kinds.StatementKind.{StatementKind}
+use Rattle.form_kinds.specs.StatementKinds.{IsKind}
+use Rattle.form_kinds.specs.declared.statement_kinds.StatementKind.{StatementKind}
 use Rattle.f77_forms.specs.Forms.{HasForm}
 
 -- A text has at most one form.

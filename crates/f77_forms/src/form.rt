@@ -1,23 +1,22 @@
 //! The form of a statement.
 ghost use Rattle.std.specs.Prelude.{◌≡◌, Some, IfOk, MatchOption};
 ghost use Rattle.f77_tree.specs.declared.form.Form.TheVariants as v;
-ghost use Rattle.f77_forms.specs.Answers as a;
-ghost use Rattle.f77_forms.specs.Assignment as s;
-ghost use Rattle.f77_forms.specs.Control as c;
+ghost use Rattle.form_parts.specs.Answers as a;
+ghost use Rattle.form_execution.specs.Assignment as s;
+ghost use Rattle.form_execution.specs.Control as c;
 ghost use Rattle.f77_forms.specs.Forms as f;
-ghost use Rattle.f77_forms.specs.Only as o;
-ghost use Rattle.f77_forms.specs.Transfer as t;
+ghost use Rattle.form_parts.specs.Only as o;
+ghost use Rattle.form_parts.specs.Parts as p;
+ghost use Rattle.form_execution.specs.Transfer as t;
 
-use super::assignment::assignment;
-use super::control::{do_form, test};
+use super::depth::is_too_deep;
 use super::head_forms::head_form;
-use super::keywords::keyword_of;
-use super::statement_kinds::{StatementKind, if_parts, statement_kind};
-use super::tokens_of::{tokens_of, whole_expression};
-use super::transfer::arithmetic_if;
 use super::word_forms::word_form;
 use f77_tree::{Box, Expr, Form};
 use fixed_form::behind_word;
+use form_execution::{arithmetic_if, assignment, do_form, test};
+use form_kinds::{StatementKind, if_parts, keyword_of, statement_kind};
+use form_parts::{tokens_of, whole_expression};
 use std::alloc::{AllocError, Global};
 
 /// The form of a statement that begins with a word or is a head.
@@ -106,7 +105,7 @@ fn is_action(form: &Form) -> bool
 }
 
 fn expression_in(alloc: Global, text: &[u8]) -> Result<Option<Expr>, AllocError>
-    ensures { IfOk result (λ found. MatchOption found (o.Never (a.InTokens c.IsExpression) text.now) (λ x. o.Sole (a.InTokens c.IsExpression) text.now x)) }
+    ensures { IfOk result (λ found. MatchOption found (o.Never (a.InTokens p.IsExpression) text.now) (λ x. o.Sole (a.InTokens p.IsExpression) text.now x)) }
 {
     let Some(tokens) = tokens_of(alloc, text)? else {
         return Ok(None);
@@ -149,7 +148,7 @@ fn conditional(
     condition: &[u8],
     inner: Box<Form>,
 ) -> Result<Option<Form>, AllocError>
-    ensures { IfOk result (λ found. MatchOption found (o.Never (a.InTokens c.IsExpression) condition.now) (λ form. f.IsConditional condition.now inner form)) }
+    ensures { IfOk result (λ found. MatchOption found (o.Never (a.InTokens p.IsExpression) condition.now) (λ form. f.IsConditional condition.now inner form)) }
 {
     match expression_in(alloc, condition)? {
         Some(test) => Ok(Some(Form::LogicalIf(test, inner))),
@@ -163,6 +162,10 @@ fn logical_if(alloc: Global, text: &[u8]) -> Result<Option<Form>, AllocError>
     let Some((condition, statement)) = if_parts(text) else {
         return Ok(None);
     };
+    let too_deep = is_too_deep(alloc, text)?;
+    if too_deep {
+        return Ok(None);
+    }
     let Some(inner) = boxed_action(alloc, statement)? else {
         return Ok(None);
     };

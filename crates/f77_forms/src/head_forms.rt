@@ -1,7 +1,7 @@
 //! Heads of units.
 ghost use Rattle.std.specs.Prelude.{◌≡◌, ◌<◌, [], codes, length, IfOk, MatchOption};
 ghost use Rattle.std.specs.Bool.{MatchBool};
-ghost use Rattle.f77_forms.specs.Only as o;
+ghost use Rattle.form_parts.specs.Only as o;
 ghost use Rattle.f77_forms.specs.HeadForms as h;
 
 use f77_tree::{Form, List, Name, TypeWord, UnitKind, is_name};

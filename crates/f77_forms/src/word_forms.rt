@@ -2,27 +2,20 @@
 ghost use Rattle.std.specs.Prelude.{◌≤◌, IfOk, MatchOption};
 ghost use Rattle.f77_tree.specs.declared.form.Form.TheVariants as v;
 ghost use Rattle.f77_expr.specs.Depth as d;
-ghost use Rattle.f77_forms.specs.Answers as a;
-ghost use Rattle.f77_forms.specs.Control as c;
-ghost use Rattle.f77_forms.specs.DataForms as n;
-ghost use Rattle.f77_forms.specs.Declarators as b;
+ghost use Rattle.form_parts.specs.Answers as a;
+ghost use Rattle.form_execution.specs.Control as c;
+ghost use Rattle.form_specification.specs.DataForms as n;
+ghost use Rattle.form_specification.specs.Declarators as b;
 ghost use Rattle.f77_forms.specs.Forms as f;
-ghost use Rattle.f77_forms.specs.Only as o;
-ghost use Rattle.f77_forms.specs.Specifications as q;
+ghost use Rattle.form_parts.specs.Only as o;
+ghost use Rattle.form_specification.specs.Specifications as q;
 
-use super::common::common;
-use super::control::{bare, test};
-use super::data::data;
-use super::declarators::{arrays, declarators};
-use super::implicit::implicit;
-use super::input_output::{print, read};
-use super::keywords::Keyword;
-use super::names::names;
-use super::parameter::parameter;
-use super::save::save;
-use super::transfer::{call, go_to, stop};
+use super::bare_forms::{continue_form, else_form, end, end_if, implicit_none, return_form};
 use f77_expr::Token;
 use f77_tree::{Form, Ty};
+use form_execution::{call, go_to, print, read, stop, test};
+use form_kinds::Keyword;
+use form_specification::{arrays, common, data, declarators, implicit, names, parameter, save};
 use std::alloc::{AllocError, Global};
 
 fn typed(alloc: Global, ty: Ty, tokens: &[Token]) -> Result<Option<Form>, AllocError>
@@ -131,7 +124,7 @@ pub fn word_form(alloc: Global, word: Keyword, tokens: &[Token]) -> Result<Optio
     ensures { IfOk result (λ found. MatchOption found (o.Never (f.WordForm word) tokens.now) (λ form. o.Sole (f.WordForm word) tokens.now form)) }
 {
     match word {
-        Keyword::ImplicitNone => Ok(bare(Form::ImplicitNone, tokens)),
+        Keyword::ImplicitNone => Ok(implicit_none(tokens)),
         Keyword::Implicit => implicit_form(alloc, tokens),
         Keyword::Integer => typed(alloc, Ty::Integer, tokens),
         Keyword::Logical => typed(alloc, Ty::Logical, tokens),
@@ -143,12 +136,12 @@ pub fn word_form(alloc: Global, word: Keyword, tokens: &[Token]) -> Result<Optio
         Keyword::Save => save_form(alloc, tokens),
         Keyword::Data => data_form(alloc, tokens),
         Keyword::ElseIf => else_if(alloc, tokens),
-        Keyword::Else => Ok(bare(Form::Else, tokens)),
-        Keyword::EndIf => Ok(bare(Form::EndIf, tokens)),
-        Keyword::End => Ok(bare(Form::End, tokens)),
+        Keyword::Else => Ok(else_form(tokens)),
+        Keyword::EndIf => Ok(end_if(tokens)),
+        Keyword::End => Ok(end(tokens)),
         Keyword::GoTo => go_to(alloc, tokens),
-        Keyword::Continue => Ok(bare(Form::Continue, tokens)),
-        Keyword::Return => Ok(bare(Form::Return, tokens)),
+        Keyword::Continue => Ok(continue_form(tokens)),
+        Keyword::Return => Ok(return_form(tokens)),
         Keyword::Stop => Ok(stop(tokens)),
         Keyword::Call => call(alloc, tokens),
         Keyword::Print => print(alloc, tokens),

@@ -5,7 +5,7 @@ use Rattle.std.proofs.lemmas.List.Concat.{flat_map-append}
 use Rattle.std.proofs.lemmas.List.FromFn.{map-range_with_len_more}
 use Rattle.run_model.specs.Storage.{Loc, loc_eq, Cells}
 use Rattle.f77_tree.specs.declared.unit.Value.{Value}
-use Rattle.f77_store.specs.Names.{Name}
+use Rattle.f77_values.specs.Tables.{Name}
 use Rattle.f77_semantics.specs.Values.{stored}
 use Rattle.f77_semantics.specs.Program.{Base, Routine}
 use Rattle.f77_semantics.specs.Expressions.{scalar}

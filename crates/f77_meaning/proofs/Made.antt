@@ -3,11 +3,11 @@ use Rattle.std.proofs.Common.{◌≡◌, ℕ, suc, ◌+◌, ◌<◌, List, [], �
 use Rattle.std.proofs.lemmas.List.{map_more}
 use Rattle.f77_tree.specs.declared.unit.Stmt.{Stmt}
 use Rattle.f77_tree.specs.declared.unit.Unit.{Unit as SourceUnit}
-use Rattle.f77_store.specs.declared.roles.Facts.{Facts}
-use Rattle.f77_store.specs.Names.{Name}
-use Rattle.f77_store.specs.Occurrences.{in_statement}
+use Rattle.f77_names.specs.declared.facts.Facts.{Facts}
+use Rattle.f77_values.specs.Tables.{Name}
+use Rattle.f77_names.specs.Occurrences.{in_statement}
 use Rattle.f77_store.specs.Layouts.{callees_with, layout_of}
-use Rattle.f77_store.specs.Roles.{facts}
+use Rattle.f77_names.specs.Roles.{facts}
 use Rattle.f77_flow.specs.Blocks as blocks
 use Rattle.interp_cells.specs.Rows.{is_marked}
 use Rattle.f77_semantics.specs.Program.{Routine}

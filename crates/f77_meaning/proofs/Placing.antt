@@ -2,7 +2,7 @@
 use Rattle.std.proofs.lemmas.List.{append_assoc, at_drop_more}
 use Rattle.std.proofs.Common.{◌≡◌, ℕ, zero, suc, ◌+◌, ◌<◌, length, get_or, drop, ◌++◌, List, [], ◌∷◌, Some, Bool, true, false, cond, if◌then◌else◌, map, slice_get, unwrap_or, refl, sym, ap, ◌∙◌, arith}
 use Rattle.f77_tree.specs.declared.unit.Unit.{Unit as SourceUnit}
-use Rattle.f77_store.specs.Names.{Name, name_eq}
+use Rattle.f77_values.specs.Tables.{Name, name_eq}
 use Rattle.f77_semantics.specs.Program.{Routine}
 use Rattle.f77_semantics.specs.Source.{is_main, main_of, routine}
 use Rattle.f77_semantics.specs.Units.{named}

@@ -2,7 +2,7 @@
 use Rattle.std.specs.Prelude.{List, [], ◌∷◌, Some, cond, pos, flat_map}
 use Rattle.run_model.specs.Storage.{Cells, loc_eq}
 use Rattle.f77_tree.specs.declared.unit.Value.{Value}
-use Rattle.f77_store.specs.Names.{Name}
+use Rattle.f77_values.specs.Tables.{Name}
 use Rattle.f77_semantics.specs.Values.{stored}
 use Rattle.f77_semantics.specs.Program.{Base}
 use Rattle.f77_semantics.specs.Expressions.{Frame, scalar}

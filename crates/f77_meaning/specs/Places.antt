@@ -1,7 +1,7 @@
 -- Where the units of a program stand in their list.
 use Rattle.std.specs.Prelude.{ℕ, suc, List, [], ◌∷◌, Option, Some, None, if◌then◌else◌, unwrap_or}
 use Rattle.f77_tree.specs.declared.unit.Unit.{Unit as SourceUnit}
-use Rattle.f77_store.specs.Names.{Name, name_eq}
+use Rattle.f77_values.specs.Tables.{Name, name_eq}
 
 -- the first unit of this name, counted on from k
 abbrev pub place_from : ℕ → List SourceUnit → Name → Option ℕ

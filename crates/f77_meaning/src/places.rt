@@ -2,7 +2,7 @@
 ghost use Rattle.std.specs.Prelude.{◌≡◌, ℕ, ◌<◌, List as Lists, None, Some, MatchOption, IfOk, OnOk, if◌then◌else◌, length, map, slice_get};
 ghost use Rattle.indexmap.specs.IndexMap.{get};
 ghost use Rattle.f77_semantics.specs.Source as source;
-ghost use Rattle.f77_store.specs.Names.{Name as Word, name_eq};
+ghost use Rattle.f77_values.specs.Tables.{Name as Word, name_eq};
 ghost use Rattle.f77_tree.specs.declared.unit.Unit as spec;
 ghost use Rattle.f77_meaning.specs.Places as p;
 

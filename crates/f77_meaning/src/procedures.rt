@@ -2,7 +2,7 @@
 ghost use Rattle.std.specs.Prelude.{◌≡◌, List as Lists, length, map, IfOk};
 ghost use Rattle.indexmap.specs.IndexMap.{get};
 ghost use Rattle.f77_tree.specs.declared.unit.Unit as spec;
-ghost use Rattle.f77_store.specs.Names.{Name as Word, name_eq};
+ghost use Rattle.f77_values.specs.Tables.{Name as Word, name_eq};
 ghost use Rattle.f77_flow.specs.Blocks as blocks;
 ghost use Rattle.f77_semantics.specs.Program as program;
 ghost use Rattle.f77_semantics.specs.Source.{routine};

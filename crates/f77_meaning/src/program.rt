@@ -8,7 +8,7 @@ ghost use Rattle.f77_semantics.specs.Program as program;
 ghost use Rattle.f77_semantics.specs.Source as source;
 ghost use Rattle.f77_semantics.specs.Units as u;
 ghost use Rattle.f77_semantics.specs.Values.{stored};
-ghost use Rattle.f77_store.specs.Names.{Name as Word};
+ghost use Rattle.f77_values.specs.Tables.{Name as Word};
 ghost use Rattle.interp_steps.specs.Worlds.{world_of};
 ghost use Rattle.sound_units.specs.Accepted.{AllAreGood, NamesDiffer};
 ghost use Rattle.prog_check.specs.ProgramFaults.{IsAccepted};

@@ -6,14 +6,14 @@ use Rattle.f77_tree.specs.declared.form.Form.{Form}
 use Rattle.f77_tree.specs.declared.form.Form.TheVariants as f
 use Rattle.f77_tree.specs.declared.form.TypeWord.{TypeWord}
 use Rattle.f77_tree.specs.declared.form.TypeWord.TheVariants as ty
-use Rattle.f77_forms.specs.declared.keywords.Keyword.TheVariants as word
-use Rattle.f77_forms.specs.declared.statement_kinds.StatementKind.{StatementKind}
-use Rattle.f77_forms.specs.declared.statement_kinds.StatementKind.TheVariants as kind
-use Rattle.f77_forms.specs.Answers.{InTokens}
+use Rattle.form_kinds.specs.declared.keywords.Keyword.TheVariants as word
+use Rattle.form_kinds.specs.declared.statement_kinds.StatementKind.{StatementKind}
+use Rattle.form_kinds.specs.declared.statement_kinds.StatementKind.TheVariants as kind
+use Rattle.form_parts.specs.Answers.{InTokens}
 use Rattle.f77_forms.specs.Forms.{HasForm, plain, logical_if, KindForm, IsWorded, head, by_word, WordForm}
 use Rattle.f77_forms.specs.HeadForms.{IsHeadForm, IsSubroutine, IsBlock, type_spelling, program, subroutine, function, block, bare, listed, named, nameless}
-use Rattle.f77_forms.specs.Keywords.{behind}
-use Rattle.f77_forms.specs.StatementKinds.{IsKind, closed_if, open_if, equated, worded}
+use Rattle.form_kinds.specs.Keywords.{behind}
+use Rattle.form_kinds.specs.StatementKinds.{IsKind, closed_if, open_if, equated, worded}
 
 abbrev end_text : List ℕ
 end_text = codes "END"

@@ -9,7 +9,7 @@ use Rattle.f77_tree.specs.declared.form.TypeWord.{TypeWord}
 use Rattle.f77_tree.specs.declared.unit.UnitKind.{UnitKind}
 use Rattle.f77_tree.specs.declared.unit.UnitKind.TheVariants as unit
 use Rattle.fixed_form.specs.declared.reader.Line.{Line}
-use Rattle.f77_forms.specs.Only.{Never, Sole}
+use Rattle.form_parts.specs.Only.{Never, Sole}
 use Rattle.f77_forms.specs.Forms.{HasForm}
 use Rattle.f77_parse.specs.Statements.{HasHead, headed, headless}
 use Rattle.f77_parse.specs.Progress.{TellsHead, of_head, of_none}

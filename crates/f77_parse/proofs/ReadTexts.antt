@@ -20,7 +20,7 @@ pub record IsGood (u : UnitText) : Type 0 where
 
 -- ---- the END line
 
-picked : (a b d g h : Bool) → cond a kind.Comment (cond b (cond d (cond g kind.End kind.Initial) kind.BadLabel) (cond h kind.Continuation kind.BadLabel)) ≡ kind.End → g ≡ true
+picked : (a b d g h : Bool) → cond a kind.Comment (cond b (cond d (cond g kind.End kind.Initial) kind.BadLabel) (cond h kind.Continuation kind.LabelledContinuation)) ≡ kind.End → g ≡ true
 picked true b d g h e = absurd (cc)
 picked false true true true h e = refl
 picked false true true false h e = absurd (cc)

@@ -10,9 +10,9 @@ use Rattle.f77_expr.specs.Depth.{deepest}
 use Rattle.f77_expr.specs.Kinds.{Tokens}
 use Rattle.f77_expr.specs.Laws.{PiecesAreUnique}
 use Rattle.f77_expr.specs.Lexing.{Piece, Good, Large, Unclosed, Lexes, tokens_of, WhyNoTokens, open_literal as open_why, large_integer as large_why, too_deep as deep_why, no_token as strange_why, IsNoText}
-use Rattle.f77_forms.specs.Only.{Never, Sole}
+use Rattle.form_parts.specs.Only.{Never, Sole}
 use Rattle.f77_forms.specs.Forms.{HasForm}
-use Rattle.f77_forms.specs.Foreign.{IsForeign}
+use Rattle.form_kinds.specs.Foreign.{IsForeign}
 use Rattle.f77_parse.specs.UnitFaults.{PieceFault, open_literal, large_integer, too_deep, TokenFault, IsFormless}
 use Rattle.f77_parse.specs.Shown.{IsOnly, is_end, IsLast, HasNoForm, HasSomeForm, KnowsForm, Explained, by_tokens, foreign, no_form}
 use Rattle.f77_parse.proofs.Deciding.{false_true}

@@ -6,7 +6,7 @@ use Rattle.f77_tree.specs.declared.form.Form.{Form, out-Form}
 use Rattle.f77_tree.specs.declared.form.Form.TheOpen.{Form-F}
 use Rattle.f77_tree.specs.declared.unit.UnitKind.{UnitKind}
 use Rattle.fixed_form.specs.declared.reader.Line.{Line}
-use Rattle.f77_forms.specs.Foreign.{IsForeign}
+use Rattle.form_kinds.specs.Foreign.{IsForeign}
 use Rattle.fault_marks.specs.declared.marks.Mark.{Mark}
 use Rattle.fault_marks.specs.Places.{Marks}
 use Rattle.f77_parse.specs.Statements.{HasFormAt}

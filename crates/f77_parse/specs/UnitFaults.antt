@@ -12,7 +12,7 @@ use Rattle.fixed_form.specs.declared.reader.Line.{Line}
 use Rattle.fixed_form.specs.declared.reader.UnitText.{UnitText}
 use Rattle.f77_expr.specs.Depth.{deepest}
 use Rattle.f77_expr.specs.Lexing.{Piece, Unclosed, Large, Pieces, Has, Lacks, tokens_of}
-use Rattle.f77_forms.specs.Foreign.{IsForeign}
+use Rattle.form_kinds.specs.Foreign.{IsForeign}
 use Rattle.fault_marks.specs.declared.marks.Mark.{Mark}
 use Rattle.f77_parse.specs.Statements.{HasFormAt, HasHead}
 use Rattle.f77_parse.specs.Order.{BreaksOrder}

@@ -3,8 +3,8 @@ ghost use Rattle.std.specs.Prelude.{◌≡◌, ℕ, ◌≤◌, ◌<◌, ◌+◌,
 ghost use Rattle.std.specs.Bool.{MatchBool};
 ghost use Rattle.f77_tree.specs.declared.form.Form.{Form as AnyForm};
 ghost use Rattle.fixed_form.specs.declared.reader.Line.{Line as AnyLine};
-ghost use Rattle.f77_forms.specs.Answers as a;
-ghost use Rattle.f77_forms.specs.Foreign.{IsForeign};
+ghost use Rattle.form_parts.specs.Answers as a;
+ghost use Rattle.form_kinds.specs.Foreign.{IsForeign};
 ghost use Rattle.f77_parse.specs.Context as c;
 ghost use Rattle.fault_marks.specs.Earliest as e;
 ghost use Rattle.f77_parse.specs.Limits as l;

@@ -6,7 +6,7 @@ use Rattle.run_model.specs.Runs.{Going, Finished, UndefinedAt}
 use Rattle.f77_tree.specs.declared.expr.Op.TheVariants.{Mul, Add, Lt}
 use Rattle.f77_tree.specs.declared.unit.Ty.TheVariants as types
 use Rattle.f77_tree.specs.declared.unit.Value.TheVariants.{Integer}
-use Rattle.f77_store.specs.declared.intrinsics.Intrinsic.TheVariants.{Mod, Sign, Dim}
+use Rattle.f77_names.specs.declared.intrinsics.Intrinsic.TheVariants.{Mod, Sign, Dim}
 use Rattle.f77_flow.specs.Graph.{At, Advance}
 use Rattle.f77_semantics.specs.Program.{Dummy, Common, AtEntry, Array, Term, Literal, Element, Whole, Reference, Apply, Paren, Binary, End, ◌and◌, Statement, Assign, ArithmeticIf, ComputedGoTo, Do, Continue, Call, Return, Stop, Print, Bound, DummyArray, Routine}
 use Rattle.f77_semantics.specs.Units.{running}

@@ -6,7 +6,7 @@ use Rattle.run_model.specs.Runs.{Run, Going, Finished, UndefinedAt}
 use Rattle.f77_tree.specs.declared.expr.Op.TheVariants.{Div, Add, Sub, Eq, And}
 use Rattle.f77_tree.specs.declared.unit.Ty.TheVariants as types
 use Rattle.f77_tree.specs.declared.unit.Value.TheVariants.{Integer, Logical}
-use Rattle.f77_store.specs.Names.{Name}
+use Rattle.f77_values.specs.Tables.{Name}
 use Rattle.f77_flow.specs.Graph.{Point, At, Advance}
 use Rattle.f77_semantics.specs.Program.{Base, Dummy, Own, Common, Known, Array, Term, Literal, Text, Variable, Element, Reference, Paren, Binary, End, ◌and◌, Statement, Assign, If, LogicalIf, Do, Continue, Call, Return, Stop, Print, Read, NoStatement, Routine}
 use Rattle.f77_semantics.specs.Units.{running}

@@ -7,7 +7,7 @@ use Rattle.run_model.specs.Turns.{run_from}
 use Rattle.run_model.specs.Runs.{Begins, RunExtends}
 use Rattle.run_model.proofs.Extend.{printed_by, same, with_more, Extends, grows_then, extends_then, play_grows, turns_grow, play_extends, turns_extend, answers}
 use Rattle.f77_tree.specs.declared.unit.Unit.{Unit}
-use Rattle.f77_store.specs.Names.{Name}
+use Rattle.f77_values.specs.Tables.{Name}
 use Rattle.f77_semantics.specs.Program.{Routine}
 use Rattle.f77_semantics.specs.Statements.{turn}
 use Rattle.f77_semantics.specs.Units.{Program, entry, cleared, entered, beginning, run_unit, at_sites, meaning, callee, named, fresh_world, running}

@@ -11,8 +11,8 @@ use Rattle.f77_tree.specs.declared.unit.Ty.{Ty}
 use Rattle.f77_tree.specs.declared.unit.Ty.TheVariants as types
 use Rattle.f77_tree.specs.declared.unit.Unit.{Unit as ProgramUnit}
 use Rattle.f77_tree.specs.declared.unit.Value.TheVariants.{Integer}
-use Rattle.f77_store.specs.Names.{Name}
-use Rattle.f77_store.specs.Roles.{facts}
+use Rattle.f77_values.specs.Tables.{Name}
+use Rattle.f77_names.specs.Roles.{facts}
 use Rattle.f77_store.specs.Layouts.{layout_of}
 use Rattle.f77_flow.specs.Labels.{target, has_range}
 use Rattle.f77_flow.specs.Blocks.{below, otherwise}

@@ -6,8 +6,8 @@ use Rattle.f77_tree.specs.declared.form.Form.{Form, out-Form}
 use Rattle.f77_tree.specs.declared.form.Form.TheOpen.{Form-F}
 use Rattle.f77_tree.specs.declared.unit.Stmt.{Stmt}
 use Rattle.f77_tree.specs.declared.unit.Unit.{Unit as ProgramUnit}
-use Rattle.f77_store.specs.Names.{Name}
-use Rattle.f77_store.specs.Roles.{facts}
+use Rattle.f77_values.specs.Tables.{Name}
+use Rattle.f77_names.specs.Roles.{facts}
 use Rattle.f77_store.specs.Layouts.{slots}
 use Rattle.f77_flow.specs.declared.kinds.Kind.{Kind}
 use Rattle.f77_flow.specs.declared.kinds.Kind.TheVariants.{Declaration, Do, Else}

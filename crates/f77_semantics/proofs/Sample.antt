@@ -2,7 +2,7 @@
 use Rattle.std.proofs.Common.{◌≡◌, ◌⊎◌, ℕ, zero, suc, ◌<◌, [], ◌∷◌, Bool, true, false, cond, None, Some, pos, inl, inr, refl, arith}
 use Rattle.f77_tree.specs.declared.expr.Op.TheVariants.{Pow, Add}
 use Rattle.f77_tree.specs.declared.unit.Ty.TheVariants as types
-use Rattle.f77_store.specs.Names.{Name, name_eq}
+use Rattle.f77_values.specs.Tables.{Name, name_eq}
 use Rattle.f77_semantics.specs.Program.{Dummy, Own, Array, Terms, Element, Reference, Binary, End, ◌and◌, Assign, Call, Return, Stop, Print, Routine}
 use Rattle.f77_semantics.specs.Statements.{statement}
 use Rattle.f77_semantics.specs.Units.{Program, named, callee}

@@ -4,10 +4,10 @@ use Rattle.std.proofs.lemmas.Grind.{flat_map-append}
 use Rattle.f77_tree.specs.declared.expr.Expr.{Expr, roll-Expr, ind-Expr, fold-roll-Expr}
 use Rattle.f77_tree.specs.declared.expr.Expr.TheFolds.{map-Expr}
 use Rattle.f77_tree.specs.declared.expr.Expr.TheOpen.{Expr-F}
-use Rattle.f77_store.specs.declared.roles.Facts.{Facts}
-use Rattle.f77_store.specs.Names.{Name}
-use Rattle.f77_store.specs.Occurrences.{Occurrences, expr_step, in_expr}
-use Rattle.f77_store.specs.Roles.{is_function, facts}
+use Rattle.f77_names.specs.declared.facts.Facts.{Facts}
+use Rattle.f77_values.specs.Tables.{Name}
+use Rattle.f77_names.specs.Occurrences.{Occurrences, expr_step, in_expr}
+use Rattle.f77_names.specs.Roles.{is_function, facts}
 use Rattle.f77_store.specs.Layouts.{slots, callee, callees_with}
 use Rattle.f77_semantics.specs.Terms.{Meant, Constant, Variable, AnArray, Function, AnIntrinsic, Unknown, Resolved, sites_of, sites_in, applied, step, resolved}
 use Rattle.f77_semantics.specs.Source.{meant_in}

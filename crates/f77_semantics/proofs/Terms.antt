@@ -10,10 +10,10 @@ use Rattle.f77_tree.specs.declared.unit.Ty.{Ty}
 use Rattle.f77_tree.specs.declared.unit.Ty.TheVariants as types
 use Rattle.f77_tree.specs.declared.unit.Value.{Value}
 use Rattle.f77_tree.specs.declared.unit.Value.TheVariants.{Integer, Logical}
-use Rattle.f77_store.specs.declared.intrinsics.Intrinsic.{Intrinsic}
-use Rattle.f77_store.specs.declared.intrinsics.Intrinsic.TheVariants.{Abs, Mod, Sign, Dim, Max, Min}
-use Rattle.f77_store.specs.Arithmetic.{operate, power, divided, integer, negated, kept, denied}
-use Rattle.f77_store.specs.Constants.{applied, operated as calculated}
+use Rattle.f77_names.specs.declared.intrinsics.Intrinsic.{Intrinsic}
+use Rattle.f77_names.specs.declared.intrinsics.Intrinsic.TheVariants.{Abs, Mod, Sign, Dim, Max, Min}
+use Rattle.f77_values.specs.Arithmetic.{operate, power, divided, integer, negated, kept, denied}
+use Rattle.f77_values.specs.Constants.{applied, operated as calculated}
 use Rattle.f77_semantics.specs.Values.{stored, seen, has_type, or_fail, lacking, operated, remainder, intrinsic}
 use Rattle.f77_semantics.specs.Program.{Base, Dummy, Own, Common, Extent, Array, Term, Literal, Text, Variable, Element, Whole, Reference, Apply, Paren, Negative, Plus, Not, Binary, NoTerm, Terms, End, ◌and◌}
 use Rattle.f77_semantics.specs.Expressions.{Frame, interval, at, scalar, shape, distance, with_others, numbered, integers, element, sequence, resulting, fresh, fetch, store, value, values, actuals}

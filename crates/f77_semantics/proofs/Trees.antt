@@ -10,8 +10,8 @@ use Rattle.f77_tree.specs.declared.unit.Stmt.{Stmt}
 use Rattle.f77_tree.specs.declared.unit.Ty.TheVariants as types
 use Rattle.f77_tree.specs.declared.unit.Value.{Value}
 use Rattle.f77_tree.specs.declared.unit.Value.TheVariants.{Integer}
-use Rattle.f77_store.specs.Names.{Name, name_eq, Told}
-use Rattle.f77_store.specs.Constants.{value_step}
+use Rattle.f77_values.specs.Tables.{Name, name_eq, Told}
+use Rattle.f77_values.specs.Constants.{value_step}
 use Rattle.f77_semantics.specs.Program.{Own, Common, Known, Literal, Variable, Reference, Binary, End, ◌and◌, Statement, Assign, LogicalIf, ArithmeticIf, Do, Call, Return, Stop}
 use Rattle.f77_semantics.specs.Terms.{Meant, Function, constant_in, Resolved, step, resolved}
 use Rattle.f77_semantics.specs.Terms as names

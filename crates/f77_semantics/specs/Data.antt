@@ -11,8 +11,8 @@ use Rattle.f77_tree.specs.declared.unit.Value.{Value}
 use Rattle.f77_store.specs.declared.storage.Area.{Area}
 use Rattle.f77_store.specs.declared.storage.Area.TheVariants as area
 use Rattle.f77_store.specs.declared.storage.Slot.{Slot}
-use Rattle.f77_store.specs.Names.{Name, Told, is_among}
-use Rattle.f77_store.specs.Sizes.{whole}
+use Rattle.f77_values.specs.Tables.{Name, Told, is_among}
+use Rattle.f77_values.specs.Sizes.{whole}
 use Rattle.f77_semantics.specs.Program.{Base, Dummy, Own, Common, Known, AtEntry, Bounds, Kept}
 use Rattle.f77_semantics.specs.Expressions.{numbered}
 use Rattle.f77_semantics.specs.Statements.{not_below_zero}

@@ -5,8 +5,8 @@ use Rattle.run_model.specs.Acts.{Act, Done, Get, Put, Ask, Fail, Undefined, Stuc
 use Rattle.f77_tree.specs.declared.unit.Ty.{Ty}
 use Rattle.f77_tree.specs.declared.unit.Value.{Value}
 use Rattle.f77_tree.specs.declared.unit.Value.TheVariants.{Integer, Logical}
-use Rattle.f77_store.specs.Names.{Name}
-use Rattle.f77_store.specs.Arithmetic.{negated, kept, denied}
+use Rattle.f77_values.specs.Tables.{Name}
+use Rattle.f77_values.specs.Arithmetic.{negated, kept, denied}
 use Rattle.f77_semantics.specs.Values.{stored, seen, has_type, or_fail, operated, intrinsic}
 use Rattle.f77_semantics.specs.Program.{Base, Dummy, Own, Common, Extent, Bounds, Known, AtEntry, Array, Term, Literal, Text, Variable, Element, Whole, Reference, Apply, Paren, Negative, Plus, Not, Binary, NoTerm, Terms, End, ◌and◌}
 

@@ -13,7 +13,7 @@ use Rattle.f77_flow.specs.Checks.{PassedChecks, IsNode}
 use Rattle.f77_semantics.specs.Expressions.{Frame}
 use Rattle.f77_semantics.specs.Statements.{Here, turn}
 use Rattle.f77_semantics.specs.Units.{beginning}
-use Rattle.f77_store.specs.Roles.{facts}
+use Rattle.f77_names.specs.Roles.{facts}
 use Rattle.f77_store.specs.Layouts.{slots}
 use Rattle.f77_semantics.specs.Terms.{Meant, Variable}
 use Rattle.f77_semantics.specs.Effects.{PointOk}

@@ -3,8 +3,8 @@ use Rattle.std.specs.Prelude.{ℕ, List, Option, ℤ}
 use Rattle.f77_tree.specs.declared.expr.Op.{Op}
 use Rattle.f77_tree.specs.declared.unit.Ty.{Ty}
 use Rattle.f77_tree.specs.declared.unit.Value.{Value}
-use Rattle.f77_store.specs.declared.intrinsics.Intrinsic.{Intrinsic}
-use Rattle.f77_store.specs.Names.{Name}
+use Rattle.f77_names.specs.declared.intrinsics.Intrinsic.{Intrinsic}
+use Rattle.f77_values.specs.Tables.{Name}
 use Rattle.f77_flow.specs.Graph.{Point}
 
 -- where a name of a unit stands: a dummy by position, the local area or a COMMON block from an offset on

@@ -2,10 +2,10 @@
 use Rattle.std.specs.Prelude.{◌≡◌, Bool, true, false, length}
 use Rattle.f77_tree.specs.declared.expr.Expr.{Expr}
 use Rattle.f77_tree.specs.declared.unit.Unit.{Unit}
-use Rattle.f77_store.specs.declared.roles.Facts.{Facts}
-use Rattle.f77_store.specs.Names.{Name}
-use Rattle.f77_store.specs.Occurrences.{in_expr}
-use Rattle.f77_store.specs.Roles.{facts, is_function}
+use Rattle.f77_names.specs.declared.facts.Facts.{Facts}
+use Rattle.f77_values.specs.Tables.{Name}
+use Rattle.f77_names.specs.Occurrences.{in_expr}
+use Rattle.f77_names.specs.Roles.{facts, is_function}
 use Rattle.f77_store.specs.Layouts.{slots, callees_with}
 use Rattle.f77_semantics.specs.Terms.{Meant, Function, sites_in, resolved}
 use Rattle.f77_semantics.specs.Source.{meant_in}

@@ -7,13 +7,13 @@ use Rattle.f77_tree.specs.declared.unit.Ty.{Ty}
 use Rattle.f77_tree.specs.declared.unit.Unit.{Unit}
 use Rattle.f77_tree.specs.declared.unit.UnitKind.{UnitKind}
 use Rattle.f77_tree.specs.declared.unit.UnitKind.TheVariants.{Main, Function}
-use Rattle.f77_store.specs.declared.roles.Facts.{Facts}
-use Rattle.f77_store.specs.declared.roles.Role.{Role}
-use Rattle.f77_store.specs.declared.roles.Role.TheVariants as role
+use Rattle.f77_names.specs.declared.facts.Facts.{Facts}
+use Rattle.f77_names.specs.declared.roles.Role.{Role}
+use Rattle.f77_names.specs.declared.roles.Role.TheVariants as role
 use Rattle.f77_store.specs.declared.storage.Layout.{Layout}
 use Rattle.f77_store.specs.declared.storage.Slot.{Slot}
-use Rattle.f77_store.specs.Names.{Name, name_eq}
-use Rattle.f77_store.specs.Roles as roles
+use Rattle.f77_values.specs.Tables.{Name, name_eq}
+use Rattle.f77_names.specs.Roles as roles
 use Rattle.f77_store.specs.Layouts.{layout_of}
 use Rattle.f77_flow.specs.Blocks.{first, below}
 use Rattle.f77_flow.specs.Graph.{after, leaving}

@@ -9,7 +9,7 @@ use Rattle.f77_tree.specs.declared.unit.Ty.{Ty}
 use Rattle.f77_tree.specs.declared.unit.Ty.TheVariants as ty
 use Rattle.f77_tree.specs.declared.unit.Value.{Value}
 use Rattle.f77_tree.specs.declared.unit.Value.TheVariants.{Integer, Logical}
-use Rattle.f77_store.specs.Arithmetic.{wrap}
+use Rattle.f77_values.specs.Arithmetic.{wrap}
 use Rattle.f77_flow.specs.Graph.{Point, At, Inside, Test, Advance}
 use Rattle.f77_semantics.specs.Values.{stored}
 use Rattle.f77_semantics.specs.Program.{Base, Term, Text, Variable, Element, Terms, End, ◌and◌, Statement, Assign, If, LogicalIf, ArithmeticIf, GoTo, ComputedGoTo, Do, Continue, Call, Return, Stop, Print, Read, NoStatement, Routine}

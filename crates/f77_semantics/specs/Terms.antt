@@ -6,16 +6,16 @@ use Rattle.f77_tree.specs.declared.expr.Expr.TheOpen.{Expr-F}
 use Rattle.f77_tree.specs.declared.unit.Ty.{Ty}
 use Rattle.f77_tree.specs.declared.unit.Value.{Value}
 use Rattle.f77_tree.specs.declared.unit.Value.TheVariants.{Integer, Logical}
-use Rattle.f77_store.specs.declared.intrinsics.Intrinsic.{Intrinsic}
-use Rattle.f77_store.specs.declared.roles.Role.{Role}
-use Rattle.f77_store.specs.declared.roles.Role.TheVariants as role
+use Rattle.f77_names.specs.declared.intrinsics.Intrinsic.{Intrinsic}
+use Rattle.f77_names.specs.declared.roles.Role.{Role}
+use Rattle.f77_names.specs.declared.roles.Role.TheVariants as role
 use Rattle.f77_store.specs.declared.storage.Area.{Area}
 use Rattle.f77_store.specs.declared.storage.Area.TheVariants as area
 use Rattle.f77_store.specs.declared.storage.Slot.{Slot}
-use Rattle.f77_store.specs.Names.{Name, Told}
-use Rattle.f77_store.specs.Constants.{value_of}
-use Rattle.f77_store.specs.Sizes as sizes
-use Rattle.f77_store.specs.Intrinsics.{intrinsic_of}
+use Rattle.f77_values.specs.Tables.{Name, Told}
+use Rattle.f77_values.specs.Constants.{value_of}
+use Rattle.f77_values.specs.Sizes as sizes
+use Rattle.f77_names.specs.Intrinsics.{intrinsic_of}
 use Rattle.f77_semantics.specs.Program as program
 use Rattle.f77_semantics.specs.Program.{Base, Extent, Bounds, Array, Term, Terms}
 

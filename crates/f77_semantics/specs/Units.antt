@@ -5,7 +5,7 @@ use Rattle.run_model.specs.Acts.{World, Undefined, Stuck, Outcome, Stop, then_do
 use Rattle.run_model.specs.Turns.{run_from}
 use Rattle.run_model.specs.Runs.{Run, answer}
 use Rattle.f77_tree.specs.declared.unit.Value.{Value}
-use Rattle.f77_store.specs.Names.{Name, name_eq}
+use Rattle.f77_values.specs.Tables.{Name, name_eq}
 use Rattle.f77_flow.specs.Graph.{At}
 use Rattle.f77_semantics.specs.Values.{stored}
 use Rattle.f77_semantics.specs.Program.{Base, Extent, Dummy, Term, Bound, DummyArray, Routine, Kept}

@@ -6,7 +6,7 @@ ghost use Rattle.run_model.specs.Storage.{Interval};
 ghost use Rattle.run_model.specs.Acts.{World};
 ghost use Rattle.run_model.specs.Runs.{RunExtends, Wrong};
 ghost use Rattle.f77_tree.specs.declared.unit.Unit.{Unit};
-ghost use Rattle.f77_store.specs.Names.{Name};
+ghost use Rattle.f77_values.specs.Tables.{Name};
 ghost use Rattle.f77_semantics.specs.Units.{Program, run_unit, at_sites, meaning, named, running};
 ghost use Rattle.f77_semantics.specs.Program.{Routine};
 ghost use Rattle.f77_semantics.specs.Effects.{Effects, ProgramOk};

@@ -1,7 +1,2 @@
 pub mod Joined
-pub mod Powers
-pub mod Values
-pub mod Products
-pub mod Indexed
 pub mod Totals
-pub mod Given

@@ -1,22 +1,12 @@
 -- Areas with one member more.
-use Rattle.std.proofs.Common.{◌≡◌, ℕ, ◌+◌, ◌<◌, min, List, [], ◌∷◌, ◌++◌, length, take, drop, get_or, Bool, true, false, ◌&&◌, if◌then◌else◌, nat_eq, fold, map, refl, ap, sym, ◌∙◌, arith, add-zero}
-use Rattle.std.proofs.lemmas.Bool.{eqb-true, false≢true}
+use Rattle.std.proofs.Common.{◌≡◌, ℕ, ◌+◌, ◌<◌, min, List, [], ◌∷◌, ◌++◌, length, take, drop, get_or, Bool, true, false, if◌then◌else◌, fold, map, refl, ap, sym, ◌∙◌, arith, add-zero}
 use Rattle.std.proofs.lemmas.List.{take_more, drop_more}
 use Rattle.std.proofs.lemmas.List.Sums.{sum_by_more}
+use Rattle.f77_values.proofs.SameNames.{same_name}
 use Rattle.f77_store.specs.declared.areas.Member.{Member}
 use Rattle.f77_store.specs.declared.areas.Place.{Place}
-use Rattle.f77_store.specs.Names.{Name, name_eq, Told, with_pair, distinct, most, saturated}
-use Rattle.f77_store.specs.Blocks.{total, units_in, placed, place_at, so_far, AreTotals, counted, blocks}
-
-both : (a b : Bool) → (a && b) ≡ true → (a ≡ true) × (b ≡ true)
-both true b h = (refl, h)
-both false b h = absurd (false≢true h)
-
-pub same_name : (v w : Name) → name_eq v w ≡ true → v ≡ w
-same_name [] [] h = refl
-same_name [] (y ∷ w) h = absurd (false≢true h)
-same_name (x ∷ v) [] h = absurd (false≢true h)
-same_name (x ∷ v) (y ∷ w) h = let t = both (nat_eq x y) (name_eq v w) h in λ i. eqb-true x y t.0 i ∷ same_name v w t.1 i
+use Rattle.f77_values.specs.Tables.{Name, name_eq, Told, with_pair, distinct, most, saturated}
+use Rattle.f77_store.specs.Areas.{total, units_in, placed, place_at, so_far, AreTotals, counted, blocks}
 
 adds : (t s : ℕ) → min (min t most + s) most ≡ min (t + s) most
 adds t s = omega arith

@@ -3,14 +3,14 @@ use Rattle.std.specs.Prelude.{ℕ, List, [], ◌∷◌, Option, Some, None, Bool
 use Rattle.std.specs.List.{position_or_len}
 use Rattle.f77_tree.specs.declared.unit.Ty.TheVariants as ty
 use Rattle.f77_tree.specs.declared.unit.Unit.{Unit}
-use Rattle.f77_store.specs.declared.occurrences.Manner.{Manner}
-use Rattle.f77_store.specs.declared.occurrences.Manner.TheVariants as manner
-use Rattle.f77_store.specs.declared.occurrences.Occurrence.{Occurrence}
-use Rattle.f77_store.specs.declared.attributes.Attributes.{Attributes}
-use Rattle.f77_store.specs.declared.roles.Facts.{Facts}
-use Rattle.f77_store.specs.declared.roles.Known.{Known}
-use Rattle.f77_store.specs.declared.roles.Role.{Role}
-use Rattle.f77_store.specs.declared.roles.Role.TheVariants as role
+use Rattle.f77_names.specs.declared.occurrences.Manner.{Manner}
+use Rattle.f77_names.specs.declared.occurrences.Manner.TheVariants as manner
+use Rattle.f77_names.specs.declared.occurrences.Occurrence.{Occurrence}
+use Rattle.f77_names.specs.declared.attributes.Attributes.{Attributes}
+use Rattle.f77_names.specs.declared.facts.Facts.{Facts}
+use Rattle.f77_names.specs.declared.roles.Known.{Known}
+use Rattle.f77_names.specs.declared.roles.Role.{Role}
+use Rattle.f77_names.specs.declared.roles.Role.TheVariants as role
 use Rattle.f77_store.specs.declared.areas.Member.{Member}
 use Rattle.f77_store.specs.declared.areas.Place.{Place}
 use Rattle.f77_store.specs.declared.storage.Area.{Area}
@@ -18,11 +18,11 @@ use Rattle.f77_store.specs.declared.storage.Area.TheVariants.{Dummy, Local, Comm
 use Rattle.f77_store.specs.declared.storage.Slot.{Slot}
 use Rattle.f77_store.specs.declared.storage.Layout.{Layout}
 use Rattle.f77_store.specs.declared.layouts.Stored.{Stored}
-use Rattle.f77_store.specs.Names.{Name, name_eq, is_among, what, Told, saturated}
-use Rattle.f77_store.specs.Occurrences.{Occurrences, occurrences}
-use Rattle.f77_store.specs.Declarations.{declarations}
-use Rattle.f77_store.specs.Roles.{facts, is_function, names}
-use Rattle.f77_store.specs.Blocks as area
+use Rattle.f77_values.specs.Tables.{Name, name_eq, is_among, what, Told, saturated}
+use Rattle.f77_names.specs.Occurrences.{Occurrences, occurrences}
+use Rattle.f77_names.specs.Declarations.{declarations}
+use Rattle.f77_names.specs.Roles.{facts, is_function, names}
+use Rattle.f77_store.specs.Areas as area
 
 abbrev pub is_array : Role → Bool
 is_array (role.Array bounds) = true

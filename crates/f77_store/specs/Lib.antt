@@ -1,11 +1,2 @@
-pub mod Names
-pub mod Arithmetic
-pub mod Constants
-pub mod Sizes
-pub mod Occurrences
-pub mod Declarations
-pub mod Types
-pub mod Intrinsics
-pub mod Roles
-pub mod Blocks
+pub mod Areas
 pub mod Layouts

@@ -1,11 +1,11 @@
 //! Areas of storage and the places in them.
 ghost use Rattle.std.specs.Prelude.{◌≡◌, ◌++◌, ℕ, List, map, IfOk, OnOk, if◌then◌else◌};
-ghost use Rattle.f77_store.specs.Names as n;
-ghost use Rattle.f77_store.specs.Blocks as b;
+ghost use Rattle.f77_values.specs.Tables as n;
+ghost use Rattle.f77_store.specs.Areas as b;
 
-use super::declarations::{Declaration, Shape};
-use super::tables::{Names, Table};
+use f77_names::{Declaration, Shape};
 use f77_tree::{List as Items, Name};
+use f77_values::{Names, Table};
 use std::alloc::{AllocError, Global};
 
 /// A member of a COMMON block, or of the local area, which has no name.

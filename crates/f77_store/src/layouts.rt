@@ -1,19 +1,19 @@
 //! The layout of a unit.
 ghost use Rattle.std.specs.Prelude.{◌≡◌, IfOk};
-ghost use Rattle.f77_store.specs.Blocks as b;
-ghost use Rattle.f77_store.specs.Declarations as d;
+ghost use Rattle.f77_store.specs.Areas as b;
+ghost use Rattle.f77_names.specs.Declarations as d;
 ghost use Rattle.f77_store.specs.Layouts as l;
-ghost use Rattle.f77_store.specs.Occurrences as o;
-ghost use Rattle.f77_store.specs.Roles as r;
+ghost use Rattle.f77_names.specs.Occurrences as o;
+ghost use Rattle.f77_names.specs.Roles as r;
 
 use super::areas::{Areas, Member, Place, blocks_of, commons_of, lay_out, so_far};
-use super::declarations::{Declaration, declarations_of};
-use super::occurrences::{Occurrence, occurrences_of};
-use super::roles::{Facts, Known, facts_of, names_of};
 use super::sites::callees_of;
 use super::storage::{Layout, Slot, locals_of, slots_of};
-use super::tables::Table;
+use f77_names::{
+    Declaration, Facts, Known, Occurrence, declarations_of, facts_of, names_of, occurrences_of,
+};
 use f77_tree::{List, Name, Unit, blank_name};
+use f77_values::Table;
 use std::alloc::{AllocError, Global};
 
 /// Slots, the size of the local area, and the blocks with their sizes.

@@ -2,8 +2,7 @@
 ghost use Rattle.std.specs.Prelude.{◌≡◌, ◌++◌, flat_map, IfOk, OnOk};
 ghost use Rattle.f77_store.specs.Layouts as l;
 
-use super::attributes::{Attributes, is_function};
-use super::occurrences::{Manner, Occurrence};
+use f77_names::{Attributes, Manner, Occurrence, is_function};
 use f77_tree::{List, Name};
 use std::alloc::{AllocError, Global};
 

@@ -1,14 +1,13 @@
 //! Where the names of a unit are stored.
 ghost use Rattle.std.specs.Prelude.{◌≡◌, ◌++◌, flat_map, is_some, unwrap_or, IfOk, OnOk};
 ghost use Rattle.f77_tree.specs.declared.unit.Ty.TheVariants as t;
-ghost use Rattle.f77_store.specs.Names as n;
+ghost use Rattle.f77_values.specs.Tables as n;
 ghost use Rattle.f77_store.specs.Layouts as l;
 
 use super::areas::{Member, Place, size_of};
-use super::roles::{Facts, Known, Role};
-use super::sizes::MOST;
-use super::tables::Table;
+use f77_names::{Facts, Known, Role};
 use f77_tree::{List, Name, Ty, blank_name};
+use f77_values::Table;
 use std::alloc::{AllocError, Global};
 
 /// A dummy by its position, the local area, or a COMMON block.
@@ -125,7 +124,11 @@ fn type_or_integer(ty: Option<Ty>) -> Ty
 fn position(facts: &Facts, name: &Name) -> u32
     ensures { result ≡ l.position facts.now name.now }
 {
-    facts.attributes.dummies.position(name).min(MOST as usize) as u32
+    facts
+        .attributes
+        .dummies
+        .position(name)
+        .min(u32::MAX as usize) as u32
 }
 
 fn dummy_slot(alloc: Global, facts: &Facts, k: &Known) -> Result<Slot, AllocError>

@@ -91,25 +91,35 @@ plain_end : (place : Option Progress) → fault place kind.End false ≡ None
 plain_end None = refl
 plain_end (Some p) = refl
 
-bad_label : (place : Option Progress) → fault place kind.BadLabel false ≡ Some 2
-bad_label None = refl
-bad_label (Some p) = refl
+-- columns 1 to 5 that are wrong, on a line of either sort
+pub data WrongLabel : LineKind → Type 0 where
+  initial_label : {k : LineKind} → k ≡ kind.BadLabel → WrongLabel k
+  continuation_label : {k : LineKind} → k ≡ kind.LabelledContinuation → WrongLabel k
+
+wrong_label : (place : Option Progress) {k : LineKind} → WrongLabel k → fault place k false ≡ Some 2
+wrong_label None (initial_label e) = ap (λ k. fault None k false) e
+wrong_label None (continuation_label e) = ap (λ k. fault None k false) e
+wrong_label (Some p) (initial_label e) = ap (λ k. fault (Some p) k false) e
+wrong_label (Some p) (continuation_label e) = ap (λ k. fault (Some p) k false) e
 
 pub data NoComment : LineKind → Type 0 where
   initial : {k : LineKind} → k ≡ kind.Initial → NoComment k
   end : {k : LineKind} → k ≡ kind.End → NoComment k
   continuation : {k : LineKind} → k ≡ kind.Continuation → NoComment k
   label : {k : LineKind} → k ≡ kind.BadLabel → NoComment k
+  labelled : {k : LineKind} → k ≡ kind.LabelledContinuation → NoComment k
 
 strange_fault : (place : Option Progress) {k : LineKind} → NoComment k → fault place k true ≡ Some 1
 strange_fault None (initial e) = ap (λ k. fault None k true) e
 strange_fault None (end e) = ap (λ k. fault None k true) e
 strange_fault None (continuation e) = ap (λ k. fault None k true) e
 strange_fault None (label e) = ap (λ k. fault None k true) e
+strange_fault None (labelled e) = ap (λ k. fault None k true) e
 strange_fault (Some p) (initial e) = ap (λ k. fault (Some p) k true) e
 strange_fault (Some p) (end e) = ap (λ k. fault (Some p) k true) e
 strange_fault (Some p) (continuation e) = ap (λ k. fault (Some p) k true) e
 strange_fault (Some p) (label e) = ap (λ k. fault (Some p) k true) e
+strange_fault (Some p) (labelled e) = ap (λ k. fault (Some p) k true) e
 
 after_comment : (p : Option Progress) (f : Text) → after p kind.Comment f ≡ p
 after_comment None f = refl
@@ -134,11 +144,13 @@ inside_of None kind.Initial = refl
 inside_of None kind.End = refl
 inside_of None kind.Continuation = refl
 inside_of None kind.BadLabel = refl
+inside_of None kind.LabelledContinuation = refl
 inside_of (Some g) kind.Comment = refl
 inside_of (Some g) kind.Initial = refl
 inside_of (Some g) kind.End = refl
 inside_of (Some g) kind.Continuation = refl
 inside_of (Some g) kind.BadLabel = refl
+inside_of (Some g) kind.LabelledContinuation = refl
 
 inside_initial : (place : Option Progress) → inside_at place kind.Initial ≡ false
 inside_initial None = refl
@@ -397,9 +409,9 @@ pub first_strange : {seen : List Text} {u : List UnitText} {d : List Line} {o : 
 first_strange {seen} {o = o} e at k line rest h numbered no_comment is strange s =
     first_here e 1 at line rest h numbered (fault_by line (place_of seen) k is (ap (λ i. card_strange i (columns line)) (inside_same o k s) ∙ strange) ∙ strange_fault (place_of seen) no_comment) s
 
-pub first_label : {seen : List Text} {u : List UnitText} {d : List Line} {o : Option Current} {next : ℕ} (e : Refused) (at : ℕ) (line : Text) (rest : List Text) → RefusesAt e 2 at → at ≡ length seen + 1 → kind_at line ≡ kind.BadLabel → card_strange (inside_current o kind.BadLabel) (columns line) ≡ false → Stands seen u d o next → Explains e (seen ++ line ∷ rest)
-first_label {seen} {o = o} e at line rest h numbered is plain s =
-    first_here e 2 at line rest h numbered (fault_by line (place_of seen) kind.BadLabel is (ap (λ i. card_strange i (columns line)) (inside_same o kind.BadLabel s) ∙ plain) ∙ bad_label (place_of seen)) s
+pub first_label : {seen : List Text} {u : List UnitText} {d : List Line} {o : Option Current} {next : ℕ} (e : Refused) (at : ℕ) (k : LineKind) (line : Text) (rest : List Text) → RefusesAt e 2 at → at ≡ length seen + 1 → WrongLabel k → kind_at line ≡ k → card_strange (inside_current o k) (columns line) ≡ false → Stands seen u d o next → Explains e (seen ++ line ∷ rest)
+first_label {seen} {o = o} e at k line rest h numbered wrong is plain s =
+    first_here e 2 at line rest h numbered (fault_by line (place_of seen) k is (ap (λ i. card_strange i (columns line)) (inside_same o k s) ∙ plain) ∙ wrong_label (place_of seen) wrong) s
 
 pub first_lone : {seen : List Text} {u : List UnitText} {d : List Line} {next : ℕ} (e : Refused) (at : ℕ) (line : Text) (rest : List Text) → RefusesAt e 3 at → at ≡ length seen + 1 → kind_at line ≡ kind.Continuation → card_strange false (columns line) ≡ false → Stands seen u d None next → Explains e (seen ++ line ∷ rest)
 first_lone {seen} e at line rest h numbered is plain s =
@@ -457,12 +469,12 @@ stands_start = record {
 
 -- ---- the kind of a card
 
-no_comment_of : (a b c d : Bool) → NoComment (cond a (cond b (cond c kind.End kind.Initial) kind.BadLabel) (cond d kind.Continuation kind.BadLabel))
+no_comment_of : (a b c d : Bool) → NoComment (cond a (cond b (cond c kind.End kind.Initial) kind.BadLabel) (cond d kind.Continuation kind.LabelledContinuation))
 no_comment_of true true true d = end refl
 no_comment_of true true false d = initial refl
 no_comment_of true false c d = label refl
 no_comment_of false b c true = continuation refl
-no_comment_of false b c false = label refl
+no_comment_of false b c false = labelled refl
 
 pub no_comment : (card : Text) → NoComment (statement_kind card)
 unfolding statement_kind

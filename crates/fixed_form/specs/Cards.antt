@@ -83,7 +83,7 @@ is_initial mark = mark == 32 || mark == 48
 unfoldable pub statement_kind : Text → LineKind
 statement_kind card =
     if is_initial (slice_index card 5) then (if is_label (label_field card) then (if is_end (text_field card) then kind.End else kind.Initial) else kind.BadLabel)
-    else (if is_blank (label_field card) then kind.Continuation else kind.BadLabel)
+    else (if is_blank (label_field card) then kind.Continuation else kind.LabelledContinuation)
 
 unfoldable pub kind_of : Text → LineKind
 kind_of card = if is_comment card then kind.Comment else statement_kind card

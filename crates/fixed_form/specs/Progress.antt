@@ -37,6 +37,7 @@ closed (Some c) = c.line ∷ []
 -- whether column 7 of a line of this kind is inside a literal
 abbrev pub inside_current : Option Current → LineKind → Bool
 inside_current (Some c) kind.Continuation = c.inside
+inside_current (Some c) kind.LabelledContinuation = c.inside
 inside_current now _ = false
 
 -- ---- the reader

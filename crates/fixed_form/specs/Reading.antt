@@ -37,13 +37,16 @@ after place kind.End field = None
 after None kind.Continuation field = None
 after (Some p) kind.Continuation field = Some (record { more = p.more + 1; fields = p.fields ++ field })
 after place kind.BadLabel field = place
+after place kind.LabelledContinuation field = place
 
 unfoldable pub place_of : List Text → Option Progress
 place_of lines = fold (λ place line. after place (kind_at line) (field_at line)) None lines
 
--- whether column 7 of a line that stands there is inside a literal
+-- Whether column 7 of a line that stands there is inside a literal. A continuation line goes on from the columns so far,
+-- whatever its columns 1 to 5 hold.
 abbrev pub inside_at : Option Progress → LineKind → Bool
 inside_at (Some p) kind.Continuation = inside_from false p.fields
+inside_at (Some p) kind.LabelledContinuation = inside_from false p.fields
 inside_at place _ = false
 
 -- the fault of a line of this kind that stands there, with a strange byte outside literals or without
@@ -51,6 +54,7 @@ abbrev pub fault : Option Progress → LineKind → Bool → Option ℕ
 fault place kind.Comment strange = None
 fault place _ true = Some 1
 fault place kind.BadLabel false = Some 2
+fault place kind.LabelledContinuation false = Some 2
 fault None kind.Continuation false = Some 3
 fault (Some p) kind.Continuation false = if p.more == 19 then Some 4 else None
 fault place _ false = None

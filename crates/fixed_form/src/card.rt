@@ -96,8 +96,10 @@ pub enum LineKind {
     Initial,
     End,
     Continuation,
-    /// An initial or a continuation line whose columns 1 to 5 hold something else.
+    /// An initial line whose columns 1 to 5 are no label.
     BadLabel,
+    /// A continuation line whose columns 1 to 5 aren't blank. It goes on with literals as any other.
+    LabelledContinuation,
 }
 
 fn is_strange(b: u8) -> bool
@@ -213,6 +215,6 @@ pub fn statement_kind(alloc: Global, card: &[u8]) -> Result<LineKind, AllocError
     if is_blank(label) {
         Ok(LineKind::Continuation)
     } else {
-        Ok(LineKind::BadLabel)
+        Ok(LineKind::LabelledContinuation)
     }
 }

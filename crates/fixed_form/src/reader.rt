@@ -226,7 +226,7 @@ fn inside_at(reader: &Reader, kind: LineKind) -> bool
     ensures { result ≡ s.inside_current reader.now.current kind }
 {
     match (&reader.current, kind) {
-        (Some(current), LineKind::Continuation) => current.inside,
+        (Some(current), LineKind::Continuation | LineKind::LabelledContinuation) => current.inside,
         _ => false,
     }
 }
@@ -262,7 +262,7 @@ fn take_card(alloc: Global, reader: Reader, number: u64, card: &[u8]) -> Result<
                 }
             }
         }
-        LineKind::BadLabel => Err(refusal(2, number)),
+        LineKind::BadLabel | LineKind::LabelledContinuation => Err(refusal(2, number)),
     }
 }
 

@@ -5,7 +5,7 @@ use Rattle.run_model.specs.Storage.{Value, Interval}
 use Rattle.run_model.specs.Acts.{World, Outcome, Fine, Stop, then_do, Act, Done, Get, Put, Say, Take, Ask, Fail, Answer, Handler, play, with_cell, with_input}
 use Rattle.run_model.specs.Runs.{Begins}
 use Rattle.run_model.specs.Turns.{After, Again, Result, ticked, follow, turns, run_from}
-use Rattle.f77_store.specs.Names.{Name}
+use Rattle.f77_values.specs.Tables.{Name}
 use Rattle.f77_semantics.specs.Program.{Routine}
 use Rattle.f77_semantics.specs.Statements.{turn}
 use Rattle.f77_semantics.specs.Units.{entry, entered, beginning, cleared, run_unit, callee, at_sites, Program, meaning}

@@ -6,7 +6,7 @@ use Rattle.run_model.specs.Acts.{World, Fine, Outcome, then_do, Act, Ask, Answer
 use Rattle.f77_tree.specs.declared.unit.Value.{Value}
 use Rattle.f77_semantics.specs.Units.{Program, at_sites, meaning, run_unit}
 use Rattle.f77_semantics.specs.Values.{stored}
-use Rattle.f77_store.specs.Names.{Name}
+use Rattle.f77_values.specs.Tables.{Name}
 use Rattle.interp_code.specs.Steps.{Operands, with_some, passed_above}
 use Rattle.interp_steps.specs.declared.stop.Stop.TheVariants.{Stuck}
 use Rattle.interp_calls.specs.declared.halt.Halt.{Halt}

@@ -1,6 +1,6 @@
 -- The units that procedures are, by their places.
 use Rattle.std.proofs.Common.{◌≡◌, ℕ, zero, suc, List, [], ◌∷◌, None, Some, map, get_or, slice_get, refl, ap, ◌∙◌, subst}
-use Rattle.f77_store.specs.Names.{Name}
+use Rattle.f77_values.specs.Tables.{Name}
 use Rattle.f77_semantics.specs.Program.{Routine}
 use Rattle.f77_semantics.specs.Units.{Program, callee}
 use Rattle.interp_calls.specs.declared.procedure.Procedure.{Procedure}

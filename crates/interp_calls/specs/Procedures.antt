@@ -1,6 +1,6 @@
 -- Procedures, and the units of a program that they are.
 use Rattle.std.specs.Prelude.{◌≡◌, ℕ, zero, suc, List, [], ◌∷◌, Some, get_or, slice_get, length, map}
-use Rattle.f77_store.specs.Names.{Name}
+use Rattle.f77_values.specs.Tables.{Name}
 use Rattle.f77_flow.specs.Blocks as blocks
 use Rattle.interp_cells.specs.Rows.{is_marked}
 use Rattle.f77_semantics.specs.Program.{Routine}

@@ -10,7 +10,7 @@ ghost use Rattle.f77_semantics.specs.Program as program;
 ghost use Rattle.f77_semantics.specs.Statements as s;
 ghost use Rattle.f77_semantics.specs.Units as r;
 ghost use Rattle.f77_semantics.specs.Values.{stored};
-ghost use Rattle.f77_store.specs.Names.{Name};
+ghost use Rattle.f77_values.specs.Tables.{Name};
 ghost use Rattle.interp_code.specs.Denoted.{step_of};
 ghost use Rattle.interp_code.specs.Steps as c;
 ghost use Rattle.interp_steps.specs.Frames.{interval_of, frame_of};

@@ -3,7 +3,7 @@ ghost use Rattle.std.specs.Prelude.{◌≡◌, ℕ, map, IfOk};
 ghost use Rattle.f77_semantics.specs.Program as program;
 ghost use Rattle.f77_semantics.specs.Expressions as ex;
 ghost use Rattle.f77_semantics.specs.Units as r;
-ghost use Rattle.f77_store.specs.Names.{Name};
+ghost use Rattle.f77_values.specs.Tables.{Name};
 ghost use Rattle.interp_steps.specs.Frames.{interval_of, frame_of};
 ghost use Rattle.interp_steps.specs.Worlds.{world_of};
 ghost use Rattle.interp_calls.specs.Entries as e;

@@ -2,7 +2,7 @@
 ghost use Rattle.std.specs.Prelude.{◌≡◌, ℕ, ◌<◌, length, option_map, MatchOption, IfSome, OnOk};
 ghost use Rattle.f77_semantics.specs.Program as program;
 ghost use Rattle.f77_semantics.specs.Statements as s;
-ghost use Rattle.f77_store.specs.Names.{Name};
+ghost use Rattle.f77_values.specs.Tables.{Name};
 ghost use Rattle.interp_steps.specs.Frames.{frame_of};
 ghost use Rattle.interp_turns.specs.Flows.{variable_of};
 ghost use Rattle.interp_turns.specs.Places.{here_of, Stands};

@@ -5,7 +5,7 @@ use Rattle.indexmap.specs.IndexMap.{get}
 use Rattle.run_model.specs.Storage as run
 use Rattle.run_model.specs.Storage.{Loc, loc_eq, put_cell}
 use Rattle.f77_tree.specs.declared.unit.Value.{Value}
-use Rattle.f77_store.specs.Names.{Name, name_eq}
+use Rattle.f77_values.specs.Tables.{Name, name_eq}
 use Rattle.f77_semantics.specs.Values.{stored}
 use Rattle.interp_cells.specs.declared.held.Seat.{Seat}
 use Rattle.interp_cells.specs.declared.storage.Storage.{Storage}

@@ -3,7 +3,7 @@ use Rattle.std.specs.Prelude.{ℕ, Option, None, cond, nat_eq, option_map}
 use Rattle.indexmap.specs.IndexMap.{get}
 use Rattle.run_model.specs.Storage as run
 use Rattle.f77_tree.specs.declared.unit.Value.{Value}
-use Rattle.f77_store.specs.Names.{name_eq}
+use Rattle.f77_values.specs.Tables.{name_eq}
 use Rattle.f77_semantics.specs.Values.{stored}
 use Rattle.interp_cells.specs.declared.storage.Storage.{Storage}
 use Rattle.interp_cells.specs.Held.{block_cell, local_cell, fresh_cell}

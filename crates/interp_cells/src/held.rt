@@ -1,7 +1,7 @@
 //! What is held of areas by their names.
 ghost use Rattle.std.specs.Prelude.{◌≡◌, ℕ, List, None, Some, OnOk, cond, nat_eq, ◌&&◌, not};
 ghost use Rattle.indexmap.specs.IndexMap.{get};
-ghost use Rattle.f77_store.specs.Names.{name_eq};
+ghost use Rattle.f77_values.specs.Tables.{name_eq};
 ghost use Rattle.interp_cells.specs.declared.held.Seat as spec;
 ghost use Rattle.interp_cells.specs.Held.{same_seat, block_cell, local_cell, fresh_cell};
 ghost use Rattle.interp_cells.specs.Rows.{is_marked};

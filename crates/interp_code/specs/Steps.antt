@@ -6,8 +6,8 @@ use Rattle.f77_tree.specs.declared.expr.Op.{Op}
 use Rattle.f77_tree.specs.declared.unit.Ty.{Ty}
 use Rattle.f77_tree.specs.declared.unit.Value.{Value}
 use Rattle.f77_tree.specs.declared.unit.Value.TheVariants.{Integer}
-use Rattle.f77_store.specs.declared.intrinsics.Intrinsic.{Intrinsic}
-use Rattle.f77_store.specs.Arithmetic.{negated, kept, denied}
+use Rattle.f77_names.specs.declared.intrinsics.Intrinsic.{Intrinsic}
+use Rattle.f77_values.specs.Arithmetic.{negated, kept, denied}
 use Rattle.f77_semantics.specs.Values.{or_fail, operated, intrinsic}
 use Rattle.f77_semantics.specs.Program.{Base, Array, Text, Terms, End, ◌and◌}
 use Rattle.f77_semantics.specs.Expressions.{Frame, interval, at, rest, fetch, store, scalar, integers, element, sequence, resulting, fresh, value}

@@ -1,7 +1,7 @@
 //! The steps of expressions.
 
 use super::storage::{Array, Base};
-use f77_store::Intrinsic;
+use f77_names::Intrinsic;
 use f77_tree::{List, Op, Ty, Value};
 
 /// What takes operands from a stack and puts one there. A site is a reference or a CALL by its number, and `Hold` has a position there.

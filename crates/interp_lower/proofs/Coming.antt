@@ -2,7 +2,7 @@
 use Rattle.std.proofs.Common.{◌≡◌, ℕ, suc, ◌+◌, ◌<◌, ◌≤◌, List, [], ◌∷◌, ◌++◌, length, drop, get_or, sym, ap, ◌∙◌, arith, append_assoc, append-nil, add-one}
 use Rattle.std.proofs.lemmas.List.{drop_more, drop_all}
 use Rattle.f77_tree.specs.declared.expr.Expr.{Expr}
-use Rattle.f77_store.specs.Names.{Name}
+use Rattle.f77_values.specs.Tables.{Name}
 use Rattle.f77_semantics.specs.Terms.{Meant}
 use Rattle.interp_code.specs.Steps.{Step, TakeIn}
 use Rattle.interp_lower.specs.Pieces.{site_count, site_total, value_steps, values_steps, actual_steps, actuals_steps, target_steps, targets_steps, item_steps, items_steps}

@@ -5,8 +5,8 @@ use Rattle.f77_tree.specs.declared.expr.Expr.{Expr}
 use Rattle.f77_tree.specs.declared.expr.Expr.TheVariants.{Int, Truth, Text, Scalar, Apply, Paren, Neg, Plus, Not, Binary}
 use Rattle.f77_tree.specs.declared.unit.Ty.{Ty}
 use Rattle.f77_tree.specs.declared.unit.Value.{Value}
-use Rattle.f77_store.specs.declared.intrinsics.Intrinsic.{Intrinsic}
-use Rattle.f77_store.specs.Names.{Name}
+use Rattle.f77_names.specs.declared.intrinsics.Intrinsic.{Intrinsic}
+use Rattle.f77_values.specs.Tables.{Name}
 use Rattle.f77_semantics.specs.Program.{Base, Array, End, ◌and◌}
 use Rattle.f77_semantics.specs.Terms.{Meant, Constant, Variable, AnArray, Function, AnIntrinsic, Unknown, Resolved, resolved, bare, applied, term_from, terms_of}
 use Rattle.interp_code.specs.Steps.{Show, Open, Locate, TakeIn, Wrong}

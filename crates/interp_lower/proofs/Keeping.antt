@@ -6,8 +6,8 @@ use Rattle.std.proofs.lemmas.List.{map-append}
 use Rattle.f77_tree.specs.declared.form.Form.{out-Form}
 use Rattle.f77_tree.specs.declared.unit.Stmt.{Stmt}
 use Rattle.f77_store.specs.declared.storage.Slot.{Slot}
-use Rattle.f77_store.specs.Names.{Name, name_eq, is_among, with_name, distinct}
-use Rattle.f77_store.proofs.Totals.{same_name}
+use Rattle.f77_values.specs.Tables.{Name, name_eq, is_among, with_name, distinct}
+use Rattle.f77_values.proofs.SameNames.{same_name}
 use Rattle.f77_semantics.specs.Data.{keeps_all, is_kept_name, kept}
 use Rattle.interp_lower.specs.Cells.{kept_slots, names_kept}
 

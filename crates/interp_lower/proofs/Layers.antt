@@ -5,7 +5,7 @@ use Rattle.f77_tree.specs.declared.expr.Expr.{Expr}
 use Rattle.f77_tree.specs.declared.expr.Expr.TheOpen.{Expr-F}
 use Rattle.f77_tree.specs.declared.expr.Expr.TheVariants.{Int, Truth, Text, Scalar, Apply, Paren, Neg, Plus, Not, Binary, rolls-Int, rolls-Truth, rolls-Text, rolls-Scalar, rolls-Apply, rolls-Paren, rolls-Neg, rolls-Plus, rolls-Not, rolls-Binary}
 use Rattle.f77_tree.specs.declared.unit.Value.TheVariants.{Integer, Logical}
-use Rattle.f77_store.specs.Names.{Name}
+use Rattle.f77_values.specs.Tables.{Name}
 use Rattle.f77_semantics.specs.Program as program
 use Rattle.f77_semantics.specs.Terms.{Meant, Resolved, resolved, plain, over, bare, applied}
 use Rattle.f77_semantics.proofs.Trees.{layer}

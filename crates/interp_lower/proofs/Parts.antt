@@ -6,8 +6,8 @@ use Rattle.f77_tree.specs.declared.expr.Expr.TheVariants.{Int, Truth, Text, Scal
 use Rattle.f77_tree.specs.declared.unit.Ty.{Ty}
 use Rattle.f77_tree.specs.declared.unit.Value.{Value}
 use Rattle.f77_tree.specs.declared.unit.Value.TheVariants.{Integer, Logical}
-use Rattle.f77_store.specs.declared.intrinsics.Intrinsic.{Intrinsic}
-use Rattle.f77_store.specs.Names.{Name}
+use Rattle.f77_names.specs.declared.intrinsics.Intrinsic.{Intrinsic}
+use Rattle.f77_values.specs.Tables.{Name}
 use Rattle.f77_semantics.specs.Program.{Base, Array, Term, End, ◌and◌}
 use Rattle.f77_semantics.specs.Terms.{Meant, Constant, Variable, AnArray, Function, AnIntrinsic, Unknown, Resolved, resolved, bare, term_from, terms_of}
 use Rattle.interp_code.specs.Steps.{Push, Open, PassRest, Hold, Refer, Compute, Keep, Negate, Deny, Operate, Wrong}

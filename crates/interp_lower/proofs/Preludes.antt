@@ -1,7 +1,7 @@
 -- The steps of statements.
 use Rattle.std.proofs.Common.{◌≡◌, ℕ, suc, ◌+◌, List, [], ◌∷◌, ◌++◌, Option, Some, None, refl, sym, ap, ◌∙◌, append_assoc}
 use Rattle.f77_tree.specs.declared.expr.Expr.{Expr}
-use Rattle.f77_store.specs.Names.{Name}
+use Rattle.f77_values.specs.Tables.{Name}
 use Rattle.f77_semantics.specs.Program.{Base, If, Assign, LogicalIf, ArithmeticIf, ComputedGoTo, Do, Call, Print, Read, Statement}
 use Rattle.f77_semantics.specs.Terms.{Meant}
 use Rattle.f77_semantics.specs.Resolve.{term, terms, sites, optional}

@@ -2,11 +2,11 @@
 use Rattle.std.proofs.Common.{◌≡◌, ℕ, suc, ◌+◌, ◌<◌, Bool, true, false, cond, List, Option, Some, None, length, drop, get_or, refl, sym, ap, ◌∙◌, subst, if◌then◌else◌, add-one}
 use Rattle.std.proofs.Math.Seq.{drop-cons}
 use Rattle.std.proofs.lemmas.Cmp.{nat_list_eq_equiv}
-use Rattle.f77_store.specs.declared.roles.Facts.{Facts}
+use Rattle.f77_names.specs.declared.facts.Facts.{Facts}
 use Rattle.f77_store.specs.declared.storage.Slot.{Slot}
-use Rattle.f77_store.specs.Names.{Name, Told, name_eq, what}
-use Rattle.f77_store.specs.Roles.{role}
-use Rattle.f77_store.proofs.Totals.{same_name}
+use Rattle.f77_values.specs.Tables.{Name, Told, name_eq, what}
+use Rattle.f77_names.specs.Roles.{role}
+use Rattle.f77_values.proofs.SameNames.{same_name}
 use Rattle.f77_semantics.specs.Terms.{meant_as}
 use Rattle.f77_semantics.specs.Source.{slot_named}
 use Rattle.interp_lower.specs.declared.meaning.Meaning.{Meaning}

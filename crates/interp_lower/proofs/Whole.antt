@@ -2,10 +2,10 @@
 use Rattle.std.proofs.Common.{◌≡◌, Bool, List, refl, sym, ◌∙◌, subst}
 use Rattle.f77_tree.specs.declared.unit.Stmt.{Stmt}
 use Rattle.f77_tree.specs.declared.unit.Unit.{Unit}
-use Rattle.f77_store.specs.declared.roles.Facts.{Facts}
+use Rattle.f77_names.specs.declared.facts.Facts.{Facts}
 use Rattle.f77_store.specs.declared.storage.Slot.{Slot}
-use Rattle.f77_store.specs.Names.{Name}
-use Rattle.f77_store.specs.Roles as roles
+use Rattle.f77_values.specs.Tables.{Name}
+use Rattle.f77_names.specs.Roles as roles
 use Rattle.f77_store.specs.Layouts as layouts
 use Rattle.f77_semantics.specs.Program as program
 use Rattle.f77_semantics.specs.Data as given

@@ -5,7 +5,7 @@ use Rattle.f77_tree.specs.declared.form.DataConst.{DataConst}
 use Rattle.f77_tree.specs.declared.form.Form.{out-Form}
 use Rattle.f77_tree.specs.declared.unit.Stmt.{Stmt}
 use Rattle.f77_store.specs.declared.storage.Slot.{Slot}
-use Rattle.f77_store.specs.Names.{Name}
+use Rattle.f77_values.specs.Tables.{Name}
 use Rattle.f77_semantics.specs.Program as program
 use Rattle.f77_semantics.specs.Data.{item_names, kept_names, is_own}
 use Rattle.interp_lower.specs.declared.kept.Kept.{Kept}

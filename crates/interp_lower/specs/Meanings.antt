@@ -1,9 +1,9 @@
 -- What the data on names stand for, and what a table tells of the names of slots.
 use Rattle.std.specs.Prelude.{◌≡◌, List, Option, Some, None, Bool, true, false, map, if◌then◌else◌}
-use Rattle.f77_store.specs.declared.roles.Facts.{Facts}
+use Rattle.f77_names.specs.declared.facts.Facts.{Facts}
 use Rattle.f77_store.specs.declared.storage.Slot.{Slot}
-use Rattle.f77_store.specs.Names.{Name, Told, name_eq, what}
-use Rattle.f77_store.specs.Roles.{role}
+use Rattle.f77_values.specs.Tables.{Name, Told, name_eq, what}
+use Rattle.f77_names.specs.Roles.{role}
 use Rattle.f77_semantics.specs.Program as program
 use Rattle.f77_semantics.specs.Terms as terms
 use Rattle.f77_semantics.specs.Terms.{Meant, meant_as}

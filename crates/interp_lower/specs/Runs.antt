@@ -3,7 +3,7 @@ use Rattle.std.specs.Prelude.{ℕ, ℤ, List, [], ◌∷◌, Option, None, map, 
 use Rattle.std.specs.List.{range_with_len, repeat}
 use Rattle.f77_tree.specs.declared.expr.Expr.{Expr, out-Expr}
 use Rattle.f77_tree.specs.declared.unit.Value.{Value}
-use Rattle.f77_store.specs.Names.{Name, Told}
+use Rattle.f77_values.specs.Tables.{Name, Told}
 use Rattle.f77_semantics.specs.Program.{Base, Bounds, Known, AtEntry}
 use Rattle.f77_semantics.specs.Expressions.{numbered}
 use Rattle.f77_semantics.specs.Terms.{Meant}

@@ -1,6 +1,6 @@
 //! The dummy arrays of a unit, and the steps of their bounds.
 ghost use Rattle.std.specs.Prelude.{◌≡◌, ◌++◌, map, IfOk, OnOk};
-ghost use Rattle.f77_store.specs.Roles as roles;
+ghost use Rattle.f77_names.specs.Roles as roles;
 ghost use Rattle.f77_semantics.specs.Source as source;
 ghost use Rattle.interp_lower.specs.Pieces as p;
 ghost use Rattle.interp_lower.specs.Routines as r;
@@ -8,7 +8,7 @@ ghost use Rattle.interp_lower.specs.Routines as r;
 use super::names::Names;
 use super::numbers::{push_number, push_or_one};
 use super::steps::add;
-use f77_store::{Role, role_of};
+use f77_names::{Role, role_of};
 use f77_tree::{Expr, List, Name};
 use interp_code::Step;
 use std::alloc::{AllocError, Global};

@@ -3,12 +3,13 @@ ghost use Rattle.std.specs.Prelude.{◌≡◌, ◌++◌, ◌||◌, fold, map, If
 ghost use Rattle.std.specs.List.{list_any};
 ghost use Rattle.f77_tree.specs.declared.expr.Expr.{out-Expr};
 ghost use Rattle.f77_tree.specs.declared.form.Form.{out-Form};
-ghost use Rattle.f77_store.specs.Names as n;
+ghost use Rattle.f77_values.specs.Tables as n;
 ghost use Rattle.f77_semantics.specs.Data as d;
 ghost use Rattle.interp_lower.specs.Cells as c;
 
-use f77_store::{Area, Names as NameSet, Slot};
+use f77_store::{Area, Slot};
 use f77_tree::{DataConst, Expr, Form, List, Name, Stmt};
+use f77_values::Names as NameSet;
 use std::alloc::{AllocError, Global};
 
 /// Storage units of the local area, `length` of them from `from` on.

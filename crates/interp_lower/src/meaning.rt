@@ -3,7 +3,7 @@ ghost use Rattle.std.specs.Prelude.{◌≡◌, IfOk};
 ghost use Rattle.interp_lower.specs.Meanings as m;
 
 use super::standing::{copy_array, copy_base};
-use f77_store::Intrinsic;
+use f77_names::Intrinsic;
 use f77_tree::{Ty, Value};
 use interp_code::{Array, Base};
 use std::alloc::{AllocError, Global};

@@ -2,15 +2,17 @@
 ghost use Rattle.std.specs.Prelude.{◌≡◌, Some, None, IfOk, OnOk};
 ghost use Rattle.f77_semantics.specs.Terms as t;
 ghost use Rattle.f77_semantics.specs.Source as source;
-ghost use Rattle.f77_store.specs.Intrinsics as i;
-ghost use Rattle.f77_store.specs.Names as n;
-ghost use Rattle.f77_store.specs.Roles as r;
+ghost use Rattle.f77_names.specs.Intrinsics as i;
+ghost use Rattle.f77_values.specs.Tables as n;
+ghost use Rattle.f77_names.specs.Roles as r;
 ghost use Rattle.interp_lower.specs.Meanings as m;
 
 use super::meaning::Meaning;
 use super::standing::{array_of, base_of};
-use f77_store::{Facts, Role, Slot, Table, intrinsic_of, role_of};
+use f77_names::{Facts, Role, intrinsic_of, role_of};
+use f77_store::Slot;
 use f77_tree::{List, Name};
+use f77_values::Table;
 use std::alloc::{AllocError, Global};
 
 /// The facts and the slots of a unit. What the names with a slot stand for is told once.

@@ -1,6 +1,6 @@
 //! A unit for the interpreter.
 ghost use Rattle.std.specs.Prelude.{◌≡◌, flat_map, map, IfOk};
-ghost use Rattle.f77_store.specs.Roles as roles;
+ghost use Rattle.f77_names.specs.Roles as roles;
 ghost use Rattle.f77_semantics.specs.Data as given;
 ghost use Rattle.f77_semantics.specs.Source as source;
 ghost use Rattle.interp_lower.specs.Cells as c;
@@ -20,7 +20,8 @@ use super::standing::copy_base;
 use super::steps::meaning_of;
 use super::values::initial;
 use f77_flow::Control;
-use f77_store::{Facts, Layout, Slot, declarations_of, facts_of, layout, occurrences_of};
+use f77_names::{Facts, declarations_of, facts_of, occurrences_of};
+use f77_store::{Layout, Slot, layout};
 use f77_tree::{List, Name, Ty, Unit, UnitKind};
 use interp_code::Base;
 use std::alloc::{AllocError, Global};

@@ -1,10 +1,10 @@
 //! How many sites a statement has.
 ghost use Rattle.std.specs.Prelude.{◌≡◌, suc, length, flat_map, if◌then◌else◌, IfOk};
 ghost use Rattle.f77_store.specs.Layouts as l;
-ghost use Rattle.f77_store.specs.Occurrences as o;
+ghost use Rattle.f77_names.specs.Occurrences as o;
 
 use super::steps::following;
-use f77_store::{Attributes, Facts, Manner, Occurrence, is_function, occurrences_of};
+use f77_names::{Attributes, Facts, Manner, Occurrence, is_function, occurrences_of};
 use f77_tree::{List, Stmt, Unit, UnitKind, blank_name};
 use std::alloc::{AllocError, Global};
 

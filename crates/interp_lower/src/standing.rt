@@ -2,10 +2,11 @@
 ghost use Rattle.std.specs.Prelude.{◌≡◌, map, unwrap_or, pos, IfOk};
 ghost use Rattle.interp_code.specs.Denoted as d;
 ghost use Rattle.f77_semantics.specs.Terms as t;
-ghost use Rattle.f77_store.specs.Sizes as s;
+ghost use Rattle.f77_values.specs.Sizes as s;
 
-use f77_store::{Area, Slot, Table, evaluate};
+use f77_store::{Area, Slot};
 use f77_tree::{Expr, List, Value};
+use f77_values::{Table, evaluate};
 use interp_code::{Array, Base, Bounds, Extent};
 use std::alloc::{AllocError, Global};
 

@@ -16,8 +16,8 @@ use super::names::Names;
 use super::runs::{Places, Repeated, Run, zip_runs};
 use super::standing::copy_base;
 use super::steps::meaning_of;
-use f77_store::{Table, evaluate};
 use f77_tree::{DataConst, Expr, Form, List, Stmt, Value};
+use f77_values::{Table, evaluate};
 use interp_code::{Array, Bounds, Extent};
 use std::alloc::{AllocError, Global};
 

@@ -2,8 +2,8 @@
 use Rattle.std.proofs.Common.{◌≡◌, List, [], ◌∷◌, ℤ, pos, neg_ℤ, int_lt, ◌-ℤ◌, refl, if◌then◌else◌}
 use Rattle.std.specs.Int.{is_negative}
 use Rattle.run_model.specs.Acts.{Done, Undefined, and_then}
-use Rattle.f77_store.specs.declared.intrinsics.Intrinsic.TheVariants.{Abs, Mod, Sign, Dim}
-use Rattle.f77_store.specs.Arithmetic.{divided, wrap}
+use Rattle.f77_names.specs.declared.intrinsics.Intrinsic.TheVariants.{Abs, Mod, Sign, Dim}
+use Rattle.f77_values.specs.Arithmetic.{divided, wrap}
 use Rattle.f77_semantics.specs.Values.{absolute, remainder, or_fail, intrinsic}
 use Rattle.interp_steps.specs.Numbers.{one, two}
 

@@ -2,7 +2,7 @@
 use Rattle.std.proofs.Common.{◌≡◌, ℤ, pos, negsuc, neg_ℤ, ◌<ℤ◌, ◌≤ℤ◌, ◌-ℤ◌, ◌*ℤ◌, Option, None, Some, w64, SFits, refl, sym, arith}
 use Rattle.std.proofs.lemmas.Int.{ints, int_wrap_fits}
 use Rattle.f77_tree.specs.declared.unit.Value.TheVariants.{Integer}
-use Rattle.f77_store.specs.Arithmetic.{wrap, integer}
+use Rattle.f77_values.specs.Arithmetic.{wrap, integer}
 use Rattle.f77_semantics.specs.Values.{absolute, remainder}
 
 pub size_below : (x : ℤ) → x <ℤ pos 0 → wrap (neg_ℤ x) ≡ absolute x

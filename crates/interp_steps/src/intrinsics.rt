@@ -1,14 +1,15 @@
 //! Intrinsic functions.
 ghost use Rattle.std.specs.Prelude.{◌≡◌, pos, neg_ℤ, int_lt, ◌-ℤ◌, ◌*ℤ◌, if◌then◌else◌};
 ghost use Rattle.std.specs.Int.{is_negative};
-ghost use Rattle.f77_store.specs.Arithmetic.{divided, wrap};
+ghost use Rattle.f77_values.specs.Arithmetic.{divided, wrap};
 ghost use Rattle.f77_semantics.specs.Values as v;
 ghost use Rattle.interp_steps.specs.Numbers.{one, two};
 ghost use Rattle.interp_steps.specs.Stops.{Gives};
 
 use super::stop::Stop;
-use f77_store::{Intrinsic, operate};
+use f77_names::Intrinsic;
 use f77_tree::{Op, Value};
+use f77_values::operate;
 
 fn greatest(first: i64, others: &[i64]) -> i64
     ensures { result ≡ v.greatest first others.now }

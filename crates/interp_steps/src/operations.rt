@@ -16,8 +16,9 @@ use super::intrinsics::intrinsic;
 use super::operand::{Operand, pop_item, pop_items, push};
 use super::stop::Stop;
 use super::value::{as_number, operated, or_stuck};
-use f77_store::{Intrinsic, deny, keep, negate};
+use f77_names::Intrinsic;
 use f77_tree::{Op, Value};
+use f77_values::{deny, keep, negate};
 use interp_code::Array;
 use std::alloc::Global;
 

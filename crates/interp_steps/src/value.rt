@@ -7,8 +7,8 @@ ghost use Rattle.f77_semantics.specs.Statements as s;
 ghost use Rattle.interp_steps.specs.Stops.{Gives, Stopped};
 
 use super::stop::Stop;
-use f77_store::operate;
 use f77_tree::{Op, Value};
+use f77_values::operate;
 use std::alloc::{AllocError, Global};
 
 fn lacking(op: Op, x: Value, y: Value) -> Stop

@@ -5,7 +5,7 @@ use Rattle.run_model.specs.Acts.{Act, Done, Fail, Undefined, and_then}
 use Rattle.run_model.specs.Turns.{After, Again}
 use Rattle.f77_tree.specs.declared.unit.Ty.TheVariants as ty
 use Rattle.f77_tree.specs.declared.unit.Value.TheVariants.{Integer}
-use Rattle.f77_store.specs.Arithmetic.{wrap}
+use Rattle.f77_values.specs.Arithmetic.{wrap}
 use Rattle.f77_semantics.specs.Program.{Base, Term, Do, Routine}
 use Rattle.f77_semantics.specs.Expressions.{Frame, fetch, store, scalar}
 use Rattle.f77_semantics.specs.Statements as running

@@ -14,14 +14,14 @@ use Rattle.f77_tree.specs.declared.unit.Stmt.{Stmt}
 use Rattle.f77_tree.specs.declared.unit.Unit.{Unit}
 use Rattle.f77_tree.specs.declared.unit.UnitKind.{UnitKind}
 use Rattle.f77_tree.specs.declared.unit.UnitKind.TheVariants as kind
-use Rattle.f77_store.specs.declared.occurrences.Manner.{Manner}
-use Rattle.f77_store.specs.declared.occurrences.Manner.TheVariants as manner
-use Rattle.f77_store.specs.declared.roles.Facts.{Facts}
+use Rattle.f77_names.specs.declared.occurrences.Manner.{Manner}
+use Rattle.f77_names.specs.declared.occurrences.Manner.TheVariants as manner
+use Rattle.f77_names.specs.declared.facts.Facts.{Facts}
 use Rattle.f77_store.specs.Layouts.{callee, callees_with}
-use Rattle.f77_store.specs.Names.{Name, is_among}
-use Rattle.f77_store.specs.Occurrences.{Occurrences, occurs, declared_manner, own_name}
-use Rattle.f77_store.specs.Occurrences as names
-use Rattle.f77_store.specs.Roles.{facts, is_function, type_of}
+use Rattle.f77_values.specs.Tables.{Name, is_among}
+use Rattle.f77_names.specs.Occurrences.{Occurrences, occurs, declared_manner, own_name}
+use Rattle.f77_names.specs.Occurrences as names
+use Rattle.f77_names.specs.Roles.{facts, is_function, type_of}
 use Rattle.prog_check.specs.declared.mentions.Mention.{Mention}
 use Rattle.prog_check.specs.declared.mentions.Wanted.TheVariants.{Function}
 use Rattle.prog_check.specs.Mentions.{Seen, seen_step, expr_says, site, site_of, dummy_procedure, is_dummy_procedure, reference, call, form_step, in_expr, in_optional, in_bound, in_declarator, in_block, in_definition, in_external, in_constant, in_run, in_form, in_statement, mentions_with}

@@ -2,7 +2,7 @@
 use Rattle.std.proofs.Common.{◌≡◌, ℕ, suc, ◌+◌, ◌<◌, List, [], ◌∷◌, ◌++◌, length, drop, get_or, map, fold, ap, sym, ◌∙◌, append_assoc, add-one}
 use Rattle.std.proofs.lemmas.List.{drop_more}
 use Rattle.f77_tree.specs.declared.unit.Unit.{Unit}
-use Rattle.f77_store.specs.Names.{with_pair, with_told}
+use Rattle.f77_values.specs.Tables.{with_pair, with_told}
 use Rattle.prog_check.specs.Mentions.{mentions}
 use Rattle.prog_check.specs.declared.mentions.Mention.{Mention}
 use Rattle.prog_check.specs.Signatures.{Signatures, named_from, signature}

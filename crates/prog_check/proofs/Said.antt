@@ -4,8 +4,8 @@ use Rattle.f77_tree.specs.declared.expr.Expr.{Expr, roll-Expr, ind-Expr, fold-Ex
 use Rattle.f77_tree.specs.declared.expr.Expr.TheFolds.{map-Expr}
 use Rattle.f77_tree.specs.declared.expr.Expr.TheOpen.{Expr-F}
 use Rattle.f77_tree.specs.declared.expr.Expr.TheVariants.{Apply, rolls-Apply}
-use Rattle.f77_store.specs.declared.roles.Facts.{Facts}
-use Rattle.f77_store.specs.Names.{Name}
+use Rattle.f77_names.specs.declared.facts.Facts.{Facts}
+use Rattle.f77_values.specs.Tables.{Name}
 use Rattle.prog_check.specs.declared.mentions.Mention.{Mention}
 use Rattle.prog_check.specs.Mentions.{Seen, seen_step, expr_says, in_expr, reference}
 

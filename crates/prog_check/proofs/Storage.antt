@@ -3,9 +3,9 @@ use Rattle.std.proofs.Common.{◌≡◌, ℕ, ◌+◌, ◌<◌, min, List, [], �
 use Rattle.std.proofs.lemmas.List.{drop_more}
 use Rattle.std.proofs.lemmas.List.Sums.{sum_by_more}
 use Rattle.f77_tree.specs.declared.unit.Unit.{Unit as SourceUnit}
-use Rattle.f77_store.specs.Blocks.{so_far}
+use Rattle.f77_store.specs.Areas.{so_far}
 use Rattle.f77_store.specs.Layouts.{blocks, local_size}
-use Rattle.f77_store.specs.Names.{Name, Told, distinct}
+use Rattle.f77_values.specs.Tables.{Name, Told, distinct}
 use Rattle.prog_check.specs.Limits.{most, all_blocks, largest, common_storage, storage}
 
 pub local_more : (f : SourceUnit → ℕ) (units : List SourceUnit) (i : ℕ) (u : SourceUnit) (old size new : ℕ) → i < length units → u ≡ get_or units i u → old ≡ min (sum_by f (take i units)) most → size ≡ f u → new ≡ min (old + size) most

@@ -2,7 +2,7 @@
 use Rattle.std.specs.Prelude.{◌≡◌, ℕ, ◌+◌, ◌<◌, ◌≤◌, suc, max, List, [], Some, None, take, map, flat_map, fold, sum_by, length, if◌then◌else◌}
 use Rattle.f77_tree.specs.declared.unit.Unit.{Unit}
 use Rattle.f77_tree.specs.Weight.{unit_weight}
-use Rattle.f77_store.specs.Names.{Name, name_eq, distinct}
+use Rattle.f77_values.specs.Tables.{Name, name_eq, distinct}
 use Rattle.f77_store.specs.Layouts.{blocks, local_size}
 use Rattle.prog_check.specs.declared.marks.ProgramMark.{ProgramMark}
 use Rattle.prog_check.specs.declared.limits.Measure.{Measure}

@@ -9,10 +9,10 @@ use Rattle.f77_tree.specs.declared.form.Form.{Form, fold-Form}
 use Rattle.f77_tree.specs.declared.form.Form.TheOpen.{Form-F}
 use Rattle.f77_tree.specs.declared.unit.Stmt.{Stmt}
 use Rattle.f77_tree.specs.declared.unit.Unit.{Unit}
-use Rattle.f77_store.specs.declared.attributes.Attributes.{Attributes}
-use Rattle.f77_store.specs.declared.roles.Facts.{Facts}
-use Rattle.f77_store.specs.Names.{Name, is_among}
-use Rattle.f77_store.specs.Roles.{facts, is_function, type_of}
+use Rattle.f77_names.specs.declared.attributes.Attributes.{Attributes}
+use Rattle.f77_names.specs.declared.facts.Facts.{Facts}
+use Rattle.f77_values.specs.Tables.{Name, is_among}
+use Rattle.f77_names.specs.Roles.{facts, is_function, type_of}
 use Rattle.check_types.specs.ExpressionTypes.{expression_type}
 use Rattle.prog_check.specs.declared.mentions.Wanted.{Wanted}
 use Rattle.prog_check.specs.declared.mentions.Wanted.TheVariants.{Subroutine, Function}

@@ -1,12 +1,12 @@
 -- What a unit is to its callers, and the unit of a name.
 use Rattle.std.specs.Prelude.{◌≡◌, ℕ, suc, List, [], ◌∷◌, Option, Some, None, map, if◌then◌else◌}
 use Rattle.f77_tree.specs.declared.unit.Unit.{Unit}
-use Rattle.f77_store.specs.declared.roles.Facts.{Facts}
-use Rattle.f77_store.specs.declared.roles.Role.{Role}
-use Rattle.f77_store.specs.declared.roles.Role.TheVariants as role
-use Rattle.f77_store.specs.Names.{Name, Told, told, what}
-use Rattle.f77_store.specs.Roles.{facts, type_of}
-use Rattle.f77_store.specs.Roles as roles
+use Rattle.f77_names.specs.declared.facts.Facts.{Facts}
+use Rattle.f77_names.specs.declared.roles.Role.{Role}
+use Rattle.f77_names.specs.declared.roles.Role.TheVariants as role
+use Rattle.f77_values.specs.Tables.{Name, Told, told, what}
+use Rattle.f77_names.specs.Roles.{facts, type_of}
+use Rattle.f77_names.specs.Roles as roles
 use Rattle.prog_check.specs.declared.signatures.Dummy.{Dummy}
 use Rattle.prog_check.specs.declared.signatures.Shape.{Shape}
 use Rattle.prog_check.specs.declared.signatures.Shape.TheVariants.{Scalar, Array, Procedure}

@@ -1,7 +1,7 @@
 -- The sites of a unit are those of its layout, so the two number them alike.
 use Rattle.std.specs.Prelude.{◌≡◌, map}
 use Rattle.f77_tree.specs.declared.unit.Unit.{Unit}
-use Rattle.f77_store.specs.Names.{Name}
+use Rattle.f77_values.specs.Tables.{Name}
 use Rattle.f77_store.specs.Layouts.{callees}
 use Rattle.prog_check.specs.declared.mentions.Site.{Site}
 use Rattle.prog_check.specs.Mentions.{sites}

@@ -6,8 +6,8 @@ ghost use Rattle.prog_check.specs.Signatures as s;
 
 use super::mentions::{Actual, Mention, Site, Wanted};
 use super::signatures::{Dummy, Shape, Signature};
-use f77_store::Table;
 use f77_tree::{List, Name, Ty, UnitKind};
+use f77_values::Table;
 
 /// Which fault is looked for.
 #[derive(Clone, Copy, Debug, Drop, PartialEq, Eq)]

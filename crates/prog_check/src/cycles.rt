@@ -15,8 +15,8 @@ use super::ranks::{may_cycle, ranks_of};
 use super::scans::mark_at;
 use super::searches::led_to;
 use super::signatures::Signature;
-use f77_store::Table;
 use f77_tree::List;
+use f77_values::Table;
 use std::alloc::{AllocError, Global};
 
 /// A site by the line of its statement and the place of the unit that it calls, if there is one.

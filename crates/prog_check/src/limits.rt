@@ -1,8 +1,8 @@
 //! The limits of a program.
 ghost use Rattle.std.specs.Prelude.{◌≡◌, ◌+◌, ◌++◌, ℕ, List as Lists, min, map, sum_by, IfOk, OnOk, ◌<◌};
-ghost use Rattle.f77_store.specs.Blocks as b;
+ghost use Rattle.f77_store.specs.Areas as b;
 ghost use Rattle.f77_store.specs.Layouts as y;
-ghost use Rattle.f77_store.specs.Names as n;
+ghost use Rattle.f77_values.specs.Tables as n;
 ghost use Rattle.prog_check.specs.Limits as l;
 ghost use Rattle.prog_check.specs.Marks as k;
 ghost use Rattle.prog_check.specs.ProgramFaults as p;
@@ -10,8 +10,9 @@ ghost use Rattle.prog_check.specs.Scans as s;
 
 use super::marks::{ProgramMark, first_of};
 use super::scans::mark_at;
-use f77_store::{Names, Table, layout, so_far};
+use f77_store::{layout, so_far};
 use f77_tree::{List, Name, Unit, weight};
+use f77_values::{Names, Table};
 use std::alloc::{AllocError, Global};
 
 /// What is summed over the units.

@@ -1,17 +1,18 @@
 //! The units of a program: what each is to its callers, and what each text says.
 ghost use Rattle.std.specs.Prelude.{◌≡◌, ◌++◌, ◌∷◌, [], map, IfOk, OnOk};
-ghost use Rattle.f77_store.specs.Declarations as d;
-ghost use Rattle.f77_store.specs.Names as n;
-ghost use Rattle.f77_store.specs.Occurrences as o;
-ghost use Rattle.f77_store.specs.Roles as r;
+ghost use Rattle.f77_names.specs.Declarations as d;
+ghost use Rattle.f77_values.specs.Tables as n;
+ghost use Rattle.f77_names.specs.Occurrences as o;
+ghost use Rattle.f77_names.specs.Roles as r;
 ghost use Rattle.prog_check.specs.Mentions as m;
 ghost use Rattle.prog_check.specs.Signatures as s;
 
 use super::mentions::Mention;
 use super::signatures::{Signature, signature_of};
 use super::texts::mentions_with;
-use f77_store::{Facts, Table, declarations_of, facts_of, occurrences_of};
+use f77_names::{Facts, declarations_of, facts_of, occurrences_of};
 use f77_tree::{List, Unit};
+use f77_values::Table;
 use std::alloc::{AllocError, Global};
 
 /// The units by their names, and what the text of each says.

@@ -14,8 +14,8 @@ use super::marks::{ProgramMark, first_of};
 use super::mentions::Mention;
 use super::programs::Program;
 use super::signatures::Signature;
-use f77_store::Table;
 use f77_tree::{List, Unit, UnitKind};
+use f77_values::Table;
 
 /// A fault by its number, its limit, the place of its unit and its line.
 pub fn mark_at(number: u8, limit: u64, unit: Option<usize>, line: u32) -> ProgramMark

@@ -1,9 +1,9 @@
 //! What a unit is to its callers.
 ghost use Rattle.std.specs.Prelude.{◌≡◌, map, IfOk};
-ghost use Rattle.f77_store.specs.Roles as r;
+ghost use Rattle.f77_names.specs.Roles as r;
 ghost use Rattle.prog_check.specs.Signatures as s;
 
-use f77_store::{Facts, Role, known_name};
+use f77_names::{Facts, Role, known_name};
 use f77_tree::{List, Name, Ty, Unit, UnitKind};
 use std::alloc::{AllocError, Global};
 

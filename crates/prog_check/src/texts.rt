@@ -6,7 +6,7 @@ ghost use Rattle.prog_check.specs.Mentions as m;
 use super::mentions::{Actual, Mention, Site, Wanted};
 use super::signatures::type_of;
 use check_types::expression_type;
-use f77_store::{Attributes, Facts, is_function};
+use f77_names::{Attributes, Facts, is_function};
 use f77_tree::{DataConst, Declarator, Expr, Form, List, Name, Stmt, Unit};
 use std::alloc::{AllocError, Global};
 

@@ -6,7 +6,7 @@ use Rattle.std.specs.Prelude.{IfOk}
 use Rattle.std.specs.declared.result.Result.{Result}
 use Rattle.indexmap.specs.IndexMap.{insert_entry}
 use Rattle.fixed_form.specs.declared.reader.UnitText.{UnitText}
-use Rattle.f77_store.specs.Names.{Name, name_eq, with_pair, told}
+use Rattle.f77_values.specs.Tables.{Name, name_eq, with_pair, told}
 use Rattle.f77_parse.specs.Statements.{EndsUnit}
 use Rattle.rn_draft.specs.Drafts.{named, drafted}
 

@@ -1,7 +1,7 @@
 -- The units of a program that is being written.
 use Rattle.std.specs.Prelude.{List, map}
 use Rattle.fixed_form.specs.declared.reader.UnitText.{UnitText}
-use Rattle.f77_store.specs.Names.{Name, told}
+use Rattle.f77_values.specs.Tables.{Name, told}
 
 abbrev pub named : UnitText → Name × UnitText
 named u = (u.name, u)

@@ -2,7 +2,7 @@
 ghost use Rattle.std.specs.Prelude.{◌≡◌, map, reverse, IfOk, OnOk};
 ghost use Rattle.std.specs.List.{All};
 ghost use Rattle.f77_parse.specs.Statements.{EndsUnit};
-ghost use Rattle.f77_store.specs.Names as n;
+ghost use Rattle.f77_values.specs.Tables as n;
 ghost use Rattle.rn_draft.specs.Drafts as d;
 
 use f77_tree::{List, Name};

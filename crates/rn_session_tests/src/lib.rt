@@ -1,11 +1,5 @@
-//! Tests of `rn_session`: replies of the top call, and executables beside an interpreter.
+//! Tests of `rn_session` on programs that are too large for its table.
 #![tactic(auto)]
 
 #[cfg(test)]
-mod against;
-#[cfg(test)]
-mod fault_tests;
-#[cfg(test)]
 mod limit_tests;
-#[cfg(test)]
-mod tests;

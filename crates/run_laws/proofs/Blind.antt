@@ -8,10 +8,10 @@ use Rattle.f77_tree.specs.declared.unit.Ty.{Ty}
 use Rattle.f77_tree.specs.declared.unit.Ty.TheVariants as types
 use Rattle.f77_tree.specs.declared.unit.Value as unit
 use Rattle.f77_tree.specs.declared.unit.Value.TheVariants.{Integer, Logical}
-use Rattle.f77_store.specs.declared.intrinsics.Intrinsic.{Intrinsic}
-use Rattle.f77_store.specs.declared.intrinsics.Intrinsic.TheVariants.{Abs, Mod, Sign, Dim, Max, Min}
-use Rattle.f77_store.specs.Arithmetic.{operate, divided, negated, kept, denied}
-use Rattle.f77_store.specs.Names.{Name}
+use Rattle.f77_names.specs.declared.intrinsics.Intrinsic.{Intrinsic}
+use Rattle.f77_names.specs.declared.intrinsics.Intrinsic.TheVariants.{Abs, Mod, Sign, Dim, Max, Min}
+use Rattle.f77_values.specs.Arithmetic.{operate, divided, negated, kept, denied}
+use Rattle.f77_values.specs.Tables.{Name}
 use Rattle.f77_flow.specs.Graph.{Point, At, Inside, Test, Advance}
 use Rattle.f77_semantics.specs.Values.{stored, seen, has_type, or_fail, lacking, remainder, intrinsic}
 use Rattle.f77_semantics.specs.Program.{Base, Dummy, Extent, Array, Term, Literal, Text, Variable, Element, Whole, Reference, Apply, Paren, Negative, Plus, Not, Binary, NoTerm, Terms, End, ◌and◌, Statement, Assign, If, LogicalIf, ArithmeticIf, GoTo, ComputedGoTo, Do, Continue, Call, Return, Print, Read, NoStatement, Bound, DummyArray, Routine}

@@ -7,11 +7,11 @@ use Rattle.f77_tree.specs.declared.form.Form.{Form, out-Form}
 use Rattle.f77_tree.specs.declared.form.Form.TheOpen.{Form-F}
 use Rattle.f77_tree.specs.declared.unit.Stmt.{Stmt}
 use Rattle.f77_tree.specs.declared.unit.Unit.{Unit as SourceUnit}
-use Rattle.f77_store.specs.declared.roles.Facts.{Facts}
-use Rattle.f77_store.specs.Names.{Name, name_eq}
+use Rattle.f77_names.specs.declared.facts.Facts.{Facts}
+use Rattle.f77_values.specs.Tables.{Name, name_eq}
 use Rattle.f77_store.specs.Layouts.{callees_with, layout_of}
-use Rattle.f77_store.specs.Occurrences.{in_statement}
-use Rattle.f77_store.specs.Roles as roles
+use Rattle.f77_names.specs.Occurrences.{in_statement}
+use Rattle.f77_names.specs.Roles as roles
 use Rattle.f77_flow.specs.Labels.{target}
 use Rattle.f77_semantics.specs.Program as program
 use Rattle.f77_semantics.specs.Program.{Term, Statement, Routine}

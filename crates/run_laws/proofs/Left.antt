@@ -5,7 +5,7 @@ use Rattle.run_model.specs.Storage.{Value, Interval, put_cell}
 use Rattle.run_model.specs.Acts.{World, Spent, Ended, Undefined, Stuck, Outcome, Fine, Stop, then_do, Act, Done, Get, Put, Say, Take, Ask, Fail, Answer, Handler, play, with_cell, with_input}
 use Rattle.run_model.specs.Turns.{After, Again, Result, ticked, follow, turns, run_from}
 use Rattle.run_model.proofs.Extend.{with_more}
-use Rattle.f77_store.specs.Names.{Name}
+use Rattle.f77_values.specs.Tables.{Name}
 use Rattle.f77_semantics.specs.Program.{Routine}
 use Rattle.f77_semantics.specs.Statements.{turn}
 use Rattle.f77_semantics.specs.Units.{Program, entry, cleared, entered, beginning, run_unit, at_sites, meaning, callee}

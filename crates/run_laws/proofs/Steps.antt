@@ -6,9 +6,9 @@ use Rattle.run_model.specs.Turns.{run_from}
 use Rattle.run_model.specs.Runs.{Run, Going, Finished, UndefinedAt, Wrong, answer}
 use Rattle.run_model.proofs.Extend.{with_more}
 use Rattle.f77_tree.specs.declared.unit.Unit.{Unit as SourceUnit}
-use Rattle.f77_store.specs.Names.{Name, name_eq}
+use Rattle.f77_values.specs.Tables.{Name, name_eq}
 use Rattle.f77_store.specs.Layouts.{layout_of}
-use Rattle.f77_store.specs.Roles as roles
+use Rattle.f77_names.specs.Roles as roles
 use Rattle.f77_semantics.specs.Program.{Routine}
 use Rattle.f77_semantics.specs.Statements.{turn}
 use Rattle.f77_semantics.specs.Units.{entry, cleared, entered, beginning, run_unit, at_sites, meaning, named, fresh_world}

@@ -5,7 +5,7 @@ use Rattle.run_model.specs.Runs.{Run, Going, Finished, UndefinedAt}
 use Rattle.f77_tree.specs.declared.form.Form.{Form, out-Form}
 use Rattle.f77_tree.specs.declared.form.Form.TheOpen.{Form-F}
 use Rattle.f77_tree.specs.declared.unit.Unit.{Unit as SourceUnit}
-use Rattle.f77_store.specs.Names.{Name}
+use Rattle.f77_values.specs.Tables.{Name}
 use Rattle.f77_semantics.specs.Source.{main_of, Source}
 
 -- ---- steps

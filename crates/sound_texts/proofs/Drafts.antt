@@ -3,7 +3,7 @@ use Rattle.std.proofs.Common.{◌≡◌, ℕ, zero, suc, Some, List, [], ◌∷�
 use Rattle.std.specs.List.{All, AllZip}
 use Rattle.f77_tree.specs.declared.unit.Unit.{Unit as SourceUnit}
 use Rattle.fixed_form.specs.declared.reader.UnitText.{UnitText}
-use Rattle.f77_store.specs.Names.{Name, Told, told}
+use Rattle.f77_values.specs.Tables.{Name, Told, told}
 use Rattle.f77_parse.specs.Statements.{EndsUnit}
 use Rattle.sound_units.specs.Sites.{Each}
 use Rattle.rn_draft.specs.Accepted.{IsAccepted, Accepted}

@@ -11,18 +11,18 @@ use Rattle.f77_tree.specs.declared.form.Form.TheOpen.{Form-F}
 use Rattle.f77_tree.specs.declared.form.Form.TheVariants as f
 use Rattle.f77_expr.specs.Kinds.{Tokens}
 use Rattle.f77_expr.specs.Grammar.{ReadsExpression}
-use Rattle.f77_forms.specs.declared.keywords.Keyword.{Keyword}
-use Rattle.f77_forms.specs.declared.keywords.Keyword.TheVariants as word
-use Rattle.f77_forms.specs.declared.statement_kinds.StatementKind.{StatementKind}
-use Rattle.f77_forms.specs.declared.statement_kinds.StatementKind.TheVariants as kind
-use Rattle.f77_forms.specs.Assignment.{IsAssignment}
-use Rattle.f77_forms.specs.Control.{IsRange, by_one, by_step}
+use Rattle.form_kinds.specs.declared.keywords.Keyword.{Keyword}
+use Rattle.form_kinds.specs.declared.keywords.Keyword.TheVariants as word
+use Rattle.form_kinds.specs.declared.statement_kinds.StatementKind.{StatementKind}
+use Rattle.form_kinds.specs.declared.statement_kinds.StatementKind.TheVariants as kind
+use Rattle.form_execution.specs.Assignment.{IsAssignment}
+use Rattle.form_execution.specs.Control.{IsRange, by_one, by_step}
 use Rattle.f77_forms.specs.Forms.{HasForm, plain, logical_if, KindForm, is_action_at as may_stand_at, IsWorded, head, by_word, WordForm}
 use Rattle.f77_forms.specs.HeadForms as h
-use Rattle.f77_forms.specs.InputOutput.{IsItem, value as by_value, literal as by_literal, IsPrint, alone as printed_alone, listed as printed_list}
-use Rattle.f77_forms.specs.Listed.{Listed, last, more}
-use Rattle.f77_forms.specs.Parts.{IsVariable, plain as by_name, element}
-use Rattle.f77_forms.specs.Transfer as x
+use Rattle.form_execution.specs.InputOutput.{IsItem, value as by_value, literal as by_literal, IsPrint, alone as printed_alone, listed as printed_list}
+use Rattle.form_parts.specs.Listed.{Listed, last, more}
+use Rattle.form_parts.specs.Parts.{IsVariable, plain as by_name, element}
+use Rattle.form_execution.specs.Transfer as x
 use Rattle.sound_units.specs.Texts.{text_step, has_text, item_has, item_has_text, optional_text, form_has_text, is_action, guards_action}
 use Rattle.sound_units.proofs.Lists.{or_left, or_right, any-map}
 use Rattle.sound_texts.proofs.Expressions.{neither, text_Apply, text_Scalar, none_read}

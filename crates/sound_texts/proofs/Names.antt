@@ -1,7 +1,7 @@
 -- The names that are told of, each once.
 use Rattle.std.proofs.Common.{◌≡◌, ℕ, zero, suc, Bool, true, false, cond, Some, List, [], ◌∷◌, fold, slice_get, refl, sym, ap, ◌∙◌}
 use Rattle.std.proofs.lemmas.Cmp.{nat_list_eq_equiv}
-use Rattle.f77_store.specs.Names.{Name, name_eq, Told, with_told, with_pair}
+use Rattle.f77_values.specs.Tables.{Name, name_eq, Told, with_told, with_pair}
 use Rattle.sound_units.specs.Sites.{Each}
 use Rattle.sound_units.proofs.Tables.{some_is, each_at}
 

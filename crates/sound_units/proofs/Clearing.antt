@@ -3,8 +3,8 @@ use Rattle.std.proofs.Common.{◌≡◌, ℕ, Bool, true, false, List, Some, tak
 use Rattle.f77_tree.specs.declared.form.Form.{out-Form}
 use Rattle.f77_tree.specs.declared.unit.Stmt.{Stmt}
 use Rattle.f77_tree.specs.declared.unit.Unit.{Unit as SourceUnit}
-use Rattle.f77_store.specs.Constants.{constants}
-use Rattle.f77_store.specs.Roles.{facts}
+use Rattle.f77_values.specs.Constants.{constants}
+use Rattle.f77_names.specs.Roles.{facts}
 use Rattle.check_names.specs.LargeArrays.{has_large, large_at}
 use Rattle.check_names.specs.NameFaults.{large}
 use Rattle.check_names.specs.Places.{where_stands}

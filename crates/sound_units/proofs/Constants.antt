@@ -5,9 +5,9 @@ use Rattle.f77_tree.specs.declared.expr.Expr.{Expr, roll-Expr, ind-Expr, fold-ro
 use Rattle.f77_tree.specs.declared.expr.Expr.TheFolds.{map-Expr}
 use Rattle.f77_tree.specs.declared.expr.Expr.TheOpen.{Expr-F}
 use Rattle.f77_tree.specs.declared.unit.Value.{Value}
-use Rattle.f77_store.specs.Arithmetic.{operate, negated, kept, denied}
-use Rattle.f77_store.specs.Constants.{applied, operated, value_step, value_of}
-use Rattle.f77_store.specs.Names.{Name, Told, what}
+use Rattle.f77_values.specs.Arithmetic.{operate, negated, kept, denied}
+use Rattle.f77_values.specs.Constants.{applied, operated, value_step, value_of}
+use Rattle.f77_values.specs.Tables.{Name, Told, what}
 use Rattle.f77_semantics.specs.Terms.{Meant, Constant, Resolved, bare, step, resolved, term_from, sites_in}
 use Rattle.f77_semantics.specs.Effects.{constant}
 use Rattle.f77_semantics.proofs.Trees.{layer}

@@ -9,14 +9,14 @@ use Rattle.f77_tree.specs.declared.form.Form.TheOpen.{Form-F}
 use Rattle.f77_tree.specs.declared.unit.Stmt.{Stmt}
 use Rattle.f77_tree.specs.declared.unit.Unit.{Unit as SourceUnit}
 use Rattle.f77_tree.specs.declared.unit.Value.{Value}
-use Rattle.f77_store.specs.declared.attributes.Attributes.{Attributes}
-use Rattle.f77_store.specs.declared.occurrences.Manner.{Manner}
-use Rattle.f77_store.specs.declared.occurrences.Manner.TheVariants as manner
-use Rattle.f77_store.specs.declared.occurrences.Occurrence.{Occurrence}
-use Rattle.f77_store.specs.Constants.{value_of, defined, with_constant, form_constants, with_statement, constants}
-use Rattle.f77_store.specs.Names.{Name, name_eq, is_among, Told, what}
-use Rattle.f77_store.specs.Occurrences.{in_head, in_statement, occurrences, names_that}
-use Rattle.f77_store.specs.Roles.{facts}
+use Rattle.f77_names.specs.declared.attributes.Attributes.{Attributes}
+use Rattle.f77_names.specs.declared.occurrences.Manner.{Manner}
+use Rattle.f77_names.specs.declared.occurrences.Manner.TheVariants as manner
+use Rattle.f77_names.specs.declared.occurrences.Occurrence.{Occurrence}
+use Rattle.f77_values.specs.Constants.{value_of, defined, with_constant, form_constants, with_statement, constants}
+use Rattle.f77_values.specs.Tables.{Name, name_eq, is_among, Told, what}
+use Rattle.f77_names.specs.Occurrences.{in_head, in_statement, occurrences, names_that}
+use Rattle.f77_names.specs.Roles.{facts}
 use Rattle.check_names.specs.declared.attribute.Attribute.{Attribute}
 use Rattle.check_names.specs.declared.attribute.Attribute.TheVariants.{Constant}
 use Rattle.check_names.specs.Exclusions.{nothing, has}

@@ -13,17 +13,17 @@ use Rattle.f77_tree.specs.declared.unit.Stmt.{Stmt}
 use Rattle.f77_tree.specs.declared.unit.Ty.TheVariants as types
 use Rattle.f77_tree.specs.declared.unit.Unit.{Unit as SourceUnit}
 use Rattle.f77_tree.specs.declared.unit.Value.{Value}
-use Rattle.f77_store.specs.declared.attributes.Attributes.{Attributes}
-use Rattle.f77_store.specs.declared.declarations.Shape.{Shape}
-use Rattle.f77_store.specs.declared.occurrences.Occurrence.{Occurrence}
-use Rattle.f77_store.specs.declared.roles.Facts.{Facts}
-use Rattle.f77_store.specs.Constants.{constants}
+use Rattle.f77_names.specs.declared.attributes.Attributes.{Attributes}
+use Rattle.f77_names.specs.declared.declarations.Shape.{Shape}
+use Rattle.f77_names.specs.declared.occurrences.Occurrence.{Occurrence}
+use Rattle.f77_names.specs.declared.facts.Facts.{Facts}
+use Rattle.f77_values.specs.Constants.{constants}
 use Rattle.f77_store.specs.Layouts.{callee, callees, callees_with}
-use Rattle.f77_store.specs.Names.{Name, name_eq, is_among, Told, what}
-use Rattle.f77_store.specs.Occurrences as occurring
-use Rattle.f77_store.specs.Occurrences.{Occurrences, expr_step, in_expr, in_optional, in_bound, in_declarator, in_block}
-use Rattle.f77_store.specs.Roles.{facts, bounds_of, is_function, is_intrinsic, role as role_of}
-use Rattle.f77_store.specs.Sizes.{Bounds}
+use Rattle.f77_values.specs.Tables.{Name, name_eq, is_among, Told, what}
+use Rattle.f77_names.specs.Occurrences as occurring
+use Rattle.f77_names.specs.Occurrences.{Occurrences, expr_step, in_expr, in_optional, in_bound, in_declarator, in_block}
+use Rattle.f77_names.specs.Roles.{facts, bounds_of, is_function, is_intrinsic, role as role_of}
+use Rattle.f77_values.specs.Sizes.{Bounds}
 use Rattle.check_types.specs.declared.breaks.Rule.TheVariants.{Types, Scalars, Exponents}
 use Rattle.check_types.specs.declared.places.Place.TheVariants.{Value as Valued}
 use Rattle.check_types.specs.Breaks.{optional_breaks, bound_breaks, declarator_breaks, form_step}

@@ -5,19 +5,19 @@ use Rattle.std.proofs.lemmas.Option.{slice_get_within, slice_get-get_or}
 use Rattle.f77_tree.specs.declared.form.Form.{out-Form}
 use Rattle.f77_tree.specs.declared.unit.Stmt.{Stmt}
 use Rattle.f77_tree.specs.declared.unit.Unit.{Unit as SourceUnit}
-use Rattle.f77_store.specs.declared.attributes.Attributes.{Attributes}
-use Rattle.f77_store.specs.declared.occurrences.Manner.{Manner}
-use Rattle.f77_store.specs.declared.occurrences.Manner.TheVariants as manner
-use Rattle.f77_store.specs.declared.occurrences.Occurrence.{Occurrence}
-use Rattle.f77_store.specs.Names.{Name, is_among, distinct, what}
-use Rattle.f77_store.specs.Occurrences.{occurrences, in_head, in_statement, names_that}
-use Rattle.f77_store.specs.Roles.{facts, is_applied, is_in_table, is_function, is_intrinsic, bounds_of, constant_of, role as role_of}
-use Rattle.f77_store.specs.declared.intrinsics.Intrinsic.{Intrinsic as IntrinsicFunction}
+use Rattle.f77_names.specs.declared.attributes.Attributes.{Attributes}
+use Rattle.f77_names.specs.declared.occurrences.Manner.{Manner}
+use Rattle.f77_names.specs.declared.occurrences.Manner.TheVariants as manner
+use Rattle.f77_names.specs.declared.occurrences.Occurrence.{Occurrence}
+use Rattle.f77_values.specs.Tables.{Name, is_among, distinct, what}
+use Rattle.f77_names.specs.Occurrences.{occurrences, in_head, in_statement, names_that}
+use Rattle.f77_names.specs.Roles.{facts, is_applied, is_in_table, is_function, is_intrinsic, bounds_of, constant_of, role as role_of}
+use Rattle.f77_names.specs.declared.intrinsics.Intrinsic.{Intrinsic as IntrinsicFunction}
 use Rattle.f77_store.specs.Layouts.{slots}
 use Rattle.f77_semantics.specs.Source.{slot_named}
-use Rattle.f77_store.specs.Intrinsics.{intrinsic_of}
-use Rattle.f77_store.specs.declared.roles.Role.{Role}
-use Rattle.f77_store.specs.declared.roles.Role.TheVariants as role
+use Rattle.f77_names.specs.Intrinsics.{intrinsic_of}
+use Rattle.f77_names.specs.declared.roles.Role.{Role}
+use Rattle.f77_names.specs.declared.roles.Role.TheVariants as role
 use Rattle.f77_store.specs.declared.storage.Slot.{Slot}
 use Rattle.f77_semantics.specs.Sites.{refers, FunctionsAgree}
 use Rattle.f77_semantics.specs.Terms.{meant_as, intrinsic_meant}

@@ -15,24 +15,24 @@ use Rattle.f77_tree.specs.declared.unit.UnitKind.{UnitKind}
 use Rattle.f77_tree.specs.declared.unit.UnitKind.TheVariants as kind
 use Rattle.f77_tree.specs.declared.unit.Value.{Value}
 use Rattle.f77_store.specs.declared.areas.Place.{Place}
-use Rattle.f77_store.specs.declared.attributes.Attributes.{Attributes}
-use Rattle.f77_store.specs.declared.declarations.Shape.{Shape}
-use Rattle.f77_store.specs.declared.occurrences.Manner.{Manner}
-use Rattle.f77_store.specs.declared.occurrences.Manner.TheVariants as manner
-use Rattle.f77_store.specs.declared.occurrences.Occurrence.{Occurrence}
-use Rattle.f77_store.specs.declared.roles.Facts.{Facts}
-use Rattle.f77_store.specs.declared.roles.Role.{Role}
-use Rattle.f77_store.specs.declared.roles.Role.TheVariants as role
+use Rattle.f77_names.specs.declared.attributes.Attributes.{Attributes}
+use Rattle.f77_names.specs.declared.declarations.Shape.{Shape}
+use Rattle.f77_names.specs.declared.occurrences.Manner.{Manner}
+use Rattle.f77_names.specs.declared.occurrences.Manner.TheVariants as manner
+use Rattle.f77_names.specs.declared.occurrences.Occurrence.{Occurrence}
+use Rattle.f77_names.specs.declared.facts.Facts.{Facts}
+use Rattle.f77_names.specs.declared.roles.Role.{Role}
+use Rattle.f77_names.specs.declared.roles.Role.TheVariants as role
 use Rattle.f77_store.specs.declared.storage.Slot.{Slot}
-use Rattle.f77_store.specs.Blocks.{units_of, size_of}
-use Rattle.f77_store.specs.Constants.{constants}
-use Rattle.f77_store.specs.Intrinsics.{intrinsic_of}
+use Rattle.f77_store.specs.Areas.{units_of, size_of}
+use Rattle.f77_values.specs.Constants.{constants}
+use Rattle.f77_names.specs.Intrinsics.{intrinsic_of}
 use Rattle.f77_store.specs.Layouts.{common_area, dummy_slot, is_array, is_variable as is_variable_role, own_slot, position, slots}
-use Rattle.f77_store.specs.Names.{Name, name_eq, is_among, distinct, Told, what, saturated}
-use Rattle.f77_store.specs.Occurrences.{Occurrences, occurs, own_name, in_head, in_statement, occurrences, is_manner, names_that}
-use Rattle.f77_store.specs.Roles.{facts, is_applied, is_in_table, is_intrinsic, is_function, bounds_of, constant_of, known as known_as, role as role_of, role_type, type_of}
-use Rattle.f77_store.specs.Sizes.{Bounds, elements}
-use Rattle.f77_store.specs.Types.{name_word, storage_type}
+use Rattle.f77_values.specs.Tables.{Name, name_eq, is_among, distinct, Told, what, saturated}
+use Rattle.f77_names.specs.Occurrences.{Occurrences, occurs, own_name, in_head, in_statement, occurrences, is_manner, names_that}
+use Rattle.f77_names.specs.Roles.{facts, is_applied, is_in_table, is_intrinsic, is_function, bounds_of, constant_of, known as known_as, role as role_of, role_type, type_of}
+use Rattle.f77_values.specs.Sizes.{Bounds, elements}
+use Rattle.f77_names.specs.Types.{name_word, storage_type}
 use Rattle.check_names.specs.declared.attribute.Attribute.TheVariants.{ResultVariable, Array, Constant, Subroutine, Procedure, Intrinsic, Function}
 use Rattle.check_names.specs.declared.attribute.Given.{Given}
 use Rattle.check_names.specs.Conflicts.{conflict_in, given_by, given_at}
@@ -44,10 +44,10 @@ use Rattle.check_names.specs.Places.{where_stands, before, in_text, occurrences_
 use Rattle.check_names.specs.Untyped.{has_type as is_typed, is_function_kind, is_result, is_variable, is_new_untyped, seen_before, untyped_at}
 use Rattle.check_types.specs.declared.breaks.Rule.{Rule}
 use Rattle.check_types.specs.declared.breaks.Rule.TheVariants.{Types, Exponents}
-use Rattle.check_types.specs.declared.standings.Standing.TheVariants as standings
+use Rattle.f77_names.specs.declared.standings.Standing.TheVariants as standings
 use Rattle.check_types.specs.Breaks.{bound_breaks, declarator_breaks, definition_breaks, form_step, form_breaks}
 use Rattle.check_types.specs.Overreaching.{definitions_overreach, overreaches_in}
-use Rattle.check_types.specs.Standings.{is_called, standing, standing_of}
+use Rattle.f77_names.specs.Standings.{is_called, standing, standing_of}
 use Rattle.check_constants.specs.declared.defined.Defined.{Defined}
 use Rattle.check_constants.specs.Needed.{bounds_lack, declarator_lacks, form_lacks, lacks_values}
 use Rattle.check_constants.specs.ValueFaults.{in_commons}

@@ -12,23 +12,23 @@ use Rattle.f77_tree.specs.declared.unit.Ty.{Ty}
 use Rattle.f77_tree.specs.declared.unit.Ty.TheVariants as types
 use Rattle.f77_tree.specs.declared.unit.Unit.{Unit as SourceUnit}
 use Rattle.f77_tree.specs.declared.unit.Value.{Value}
-use Rattle.f77_store.specs.declared.occurrences.Occurrence.{Occurrence}
-use Rattle.f77_store.specs.declared.roles.Facts.{Facts}
-use Rattle.f77_store.specs.Names.{Name, Told, what}
-use Rattle.f77_store.specs.Roles.{facts, type_of}
-use Rattle.f77_store.specs.Occurrences as occurring
-use Rattle.f77_store.specs.Occurrences.{Occurrences, in_expr, in_optional}
+use Rattle.f77_names.specs.declared.occurrences.Occurrence.{Occurrence}
+use Rattle.f77_names.specs.declared.facts.Facts.{Facts}
+use Rattle.f77_values.specs.Tables.{Name, Told, what}
+use Rattle.f77_names.specs.Roles.{facts, type_of}
+use Rattle.f77_names.specs.Occurrences as occurring
+use Rattle.f77_names.specs.Occurrences.{Occurrences, in_expr, in_optional}
 use Rattle.f77_store.specs.Layouts.{callee, callees, callees_with}
 use Rattle.check_types.specs.declared.breaks.Rule.{Rule}
 use Rattle.check_types.specs.declared.breaks.Rule.TheVariants.{Types, Scalars, Targets, Exponents}
 use Rattle.check_types.specs.declared.places.Place.{Place}
 use Rattle.check_types.specs.declared.places.Place.TheVariants.{Value as Valued, Actual}
-use Rattle.check_types.specs.declared.standings.Standing.{Standing}
-use Rattle.check_types.specs.declared.standings.Standing.TheVariants as standing
+use Rattle.f77_names.specs.declared.standings.Standing.{Standing}
+use Rattle.f77_names.specs.declared.standings.Standing.TheVariants as standing
 use Rattle.check_types.specs.Breaks.{optional_breaks, target_breaks, form_step, form_breaks}
 use Rattle.check_types.specs.Exponents.{has_wrong_exponent}
 use Rattle.check_types.specs.Scalars.{is_misplaced}
-use Rattle.check_types.specs.Standings.{standing_of, is_scalar, is_array}
+use Rattle.f77_names.specs.Standings.{standing_of, is_scalar, is_array}
 use Rattle.check_types.specs.Targets.{target_type, is_no_element, is_no_variable}
 use Rattle.check_types.specs.WrongTypes.{differs, is_mistyped}
 use Rattle.f77_flow.specs.Blocks.{below, otherwise}

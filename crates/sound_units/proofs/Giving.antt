@@ -5,12 +5,12 @@ use Rattle.std.specs.Cmp.Lexicographic.{same_text}
 use Rattle.std.proofs.lemmas.List.Sums.{fold-append}
 use Rattle.std.proofs.lemmas.Cmp.{nat_list_eq_equiv}
 use Rattle.f77_tree.specs.declared.unit.Stmt.{Stmt}
-use Rattle.f77_store.specs.declared.attributes.Attributes.{Attributes}
-use Rattle.f77_store.specs.declared.occurrences.Manner.{Manner}
-use Rattle.f77_store.specs.declared.occurrences.Manner.TheVariants as manner
-use Rattle.f77_store.specs.declared.occurrences.Occurrence.{Occurrence}
-use Rattle.f77_store.specs.Names.{Name, name_eq, is_among, with_name, distinct}
-use Rattle.f77_store.specs.Occurrences.{Occurrences, in_statement, is_manner, names_that}
+use Rattle.f77_names.specs.declared.attributes.Attributes.{Attributes}
+use Rattle.f77_names.specs.declared.occurrences.Manner.{Manner}
+use Rattle.f77_names.specs.declared.occurrences.Manner.TheVariants as manner
+use Rattle.f77_names.specs.declared.occurrences.Occurrence.{Occurrence}
+use Rattle.f77_values.specs.Tables.{Name, name_eq, is_among, with_name, distinct}
+use Rattle.f77_names.specs.Occurrences.{Occurrences, in_statement, is_manner, names_that}
 use Rattle.check_names.specs.declared.attribute.Attribute.{Attribute}
 use Rattle.check_names.specs.declared.attribute.Attribute.TheVariants.{ResultVariable, Dummy, Array, Constant, Subroutine, Procedure, Intrinsic, Function, Typed, Common, Item, Letter}
 use Rattle.check_names.specs.declared.attribute.Given.{Given}

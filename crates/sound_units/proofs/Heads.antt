@@ -9,15 +9,15 @@ use Rattle.f77_tree.specs.declared.unit.Stmt.{Stmt}
 use Rattle.f77_tree.specs.declared.unit.Unit.{Unit as SourceUnit}
 use Rattle.f77_tree.specs.declared.unit.UnitKind.{UnitKind}
 use Rattle.f77_tree.specs.declared.unit.UnitKind.TheVariants as kind
-use Rattle.f77_store.specs.declared.attributes.Attributes.{Attributes}
-use Rattle.f77_store.specs.declared.occurrences.Manner.TheVariants as manner
-use Rattle.f77_store.specs.declared.roles.Facts.{Facts}
-use Rattle.f77_store.specs.declared.roles.Role.{Role}
-use Rattle.f77_store.specs.declared.roles.Role.TheVariants as role
+use Rattle.f77_names.specs.declared.attributes.Attributes.{Attributes}
+use Rattle.f77_names.specs.declared.occurrences.Manner.TheVariants as manner
+use Rattle.f77_names.specs.declared.facts.Facts.{Facts}
+use Rattle.f77_names.specs.declared.roles.Role.{Role}
+use Rattle.f77_names.specs.declared.roles.Role.TheVariants as role
 use Rattle.f77_store.specs.Layouts.{is_array as is_array_role, position}
-use Rattle.f77_store.specs.Names.{Name, name_eq, is_among, with_name, distinct, saturated}
-use Rattle.f77_store.specs.Occurrences.{occurs, own_name, in_head, in_statement, occurrences, names_that, named_if}
-use Rattle.f77_store.specs.Roles.{role as role_of}
+use Rattle.f77_values.specs.Tables.{Name, name_eq, is_among, with_name, distinct, saturated}
+use Rattle.f77_names.specs.Occurrences.{occurs, own_name, in_head, in_statement, occurrences, names_that, named_if}
+use Rattle.f77_names.specs.Roles.{role as role_of}
 use Rattle.check_names.specs.declared.attribute.Attribute.TheVariants.{Dummy}
 use Rattle.check_names.specs.Exclusions.{nothing, has, with_attribute, conflicts, is_excluded}
 use Rattle.check_names.specs.Givings.{Givings, gives, by_occurrence}

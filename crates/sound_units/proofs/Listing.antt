@@ -10,14 +10,14 @@ use Rattle.f77_tree.specs.declared.form.Declarator.{Declarator}
 use Rattle.f77_tree.specs.declared.form.Form.{Form, roll-Form, ind-Form, fold-roll-Form}
 use Rattle.f77_tree.specs.declared.form.Form.TheFolds.{map-Form}
 use Rattle.f77_tree.specs.declared.form.Form.TheOpen.{Form-F}
-use Rattle.f77_store.specs.declared.occurrences.Manner.{Manner}
-use Rattle.f77_store.specs.declared.occurrences.Manner.TheVariants as manner
-use Rattle.f77_store.specs.declared.occurrences.Occurrence.{Occurrence}
-use Rattle.f77_store.specs.declared.roles.Facts.{Facts}
-use Rattle.f77_store.specs.Names.{Name, is_among}
-use Rattle.f77_store.specs.Roles.{is_in_table, is_function, type_of}
-use Rattle.f77_store.specs.Occurrences as occurring
-use Rattle.f77_store.specs.Occurrences.{Occurrences, occurs, expr_step, in_expr}
+use Rattle.f77_names.specs.declared.occurrences.Manner.{Manner}
+use Rattle.f77_names.specs.declared.occurrences.Manner.TheVariants as manner
+use Rattle.f77_names.specs.declared.occurrences.Occurrence.{Occurrence}
+use Rattle.f77_names.specs.declared.facts.Facts.{Facts}
+use Rattle.f77_values.specs.Tables.{Name, is_among}
+use Rattle.f77_names.specs.Roles.{is_in_table, is_function, type_of}
+use Rattle.f77_names.specs.Occurrences as occurring
+use Rattle.f77_names.specs.Occurrences.{Occurrences, occurs, expr_step, in_expr}
 use Rattle.prog_check.specs.declared.mentions.Mention.{Mention}
 use Rattle.prog_check.specs.declared.mentions.Wanted.TheVariants.{Function}
 use Rattle.prog_check.specs.Mentions as said

@@ -10,11 +10,11 @@ use Rattle.f77_tree.specs.declared.form.Form.{Form, out-Form}
 use Rattle.f77_tree.specs.declared.form.Form.TheFolds.{map-Form}
 use Rattle.f77_tree.specs.declared.form.Form.TheOpen.{Form-F}
 use Rattle.f77_tree.specs.declared.unit.Stmt.{Stmt}
-use Rattle.f77_store.specs.declared.occurrences.Manner.{Manner}
-use Rattle.f77_store.specs.declared.occurrences.Manner.TheVariants as manner
-use Rattle.f77_store.specs.declared.occurrences.Occurrence.{Occurrence}
-use Rattle.f77_store.specs.Names.{Name, name_eq}
-use Rattle.f77_store.specs.Occurrences.{Occurrences, occurs, expr_step, in_expr, in_optional, in_bound, in_declarator, in_block, in_definition, in_constant, in_run, form_step, in_form, in_statement, is_manner, names_that}
+use Rattle.f77_names.specs.declared.occurrences.Manner.{Manner}
+use Rattle.f77_names.specs.declared.occurrences.Manner.TheVariants as manner
+use Rattle.f77_names.specs.declared.occurrences.Occurrence.{Occurrence}
+use Rattle.f77_values.specs.Tables.{Name, name_eq}
+use Rattle.f77_names.specs.Occurrences.{Occurrences, occurs, expr_step, in_expr, in_optional, in_bound, in_declarator, in_block, in_definition, in_constant, in_run, form_step, in_form, in_statement, is_manner, names_that}
 use Rattle.sound_units.specs.Sites.{Each}
 use Rattle.sound_units.specs.Texts.{is_action, guards_action}
 use Rattle.sound_units.proofs.Giving.{occurs_so}

@@ -9,16 +9,16 @@ use Rattle.f77_tree.specs.declared.unit.Stmt.{Stmt}
 use Rattle.f77_tree.specs.declared.unit.Ty.{Ty}
 use Rattle.f77_tree.specs.declared.unit.Ty.TheVariants as types
 use Rattle.f77_tree.specs.declared.unit.Value.{Value}
-use Rattle.f77_store.specs.declared.roles.Facts.{Facts}
-use Rattle.f77_store.specs.Constants.{value_of, defined as told_as, with_constant, constants}
-use Rattle.f77_store.specs.Names.{Name, name_eq, is_among, with_name, Told, with_told}
-use Rattle.f77_store.specs.Roles.{type_of}
+use Rattle.f77_names.specs.declared.facts.Facts.{Facts}
+use Rattle.f77_values.specs.Constants.{value_of, defined as told_as, with_constant, constants}
+use Rattle.f77_values.specs.Tables.{Name, name_eq, is_among, with_name, Told, with_told}
+use Rattle.f77_names.specs.Roles.{type_of}
 use Rattle.check_types.specs.declared.breaks.Rule.TheVariants.{Types}
 use Rattle.check_types.specs.declared.places.Place.TheVariants.{Value as Valued}
 use Rattle.check_types.specs.Breaks.{definition_breaks}
 use Rattle.check_types.specs.Exponents.{has_wrong_exponent}
 use Rattle.check_types.specs.Overreaching.{definitions_overreach}
-use Rattle.check_types.specs.Standings.{standing_of, is_called}
+use Rattle.f77_names.specs.Standings.{standing_of, is_called}
 use Rattle.check_types.specs.WrongTypes.{differs, is_mistyped}
 use Rattle.check_constants.specs.declared.defined.Defined.{Defined}
 use Rattle.check_constants.specs.Defined.{nothing, with_definition, with_form, with_statement}

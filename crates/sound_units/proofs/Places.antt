@@ -4,7 +4,7 @@ use Rattle.f77_tree.specs.declared.expr.Expr.{Expr, roll-Expr, ind-Expr, fold-ro
 use Rattle.f77_tree.specs.declared.expr.Expr.TheFolds.{map-Expr}
 use Rattle.f77_tree.specs.declared.expr.Expr.TheOpen.{Expr-F}
 use Rattle.f77_tree.specs.declared.unit.Ty.{Ty}
-use Rattle.f77_store.specs.declared.roles.Facts.{Facts}
+use Rattle.f77_names.specs.declared.facts.Facts.{Facts}
 use Rattle.check_types.specs.declared.places.Place.{Place}
 use Rattle.check_types.specs.declared.places.Place.TheVariants.{Value}
 use Rattle.check_types.specs.Scalars.{misplaced_step, is_misplaced}

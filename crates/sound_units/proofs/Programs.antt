@@ -10,10 +10,10 @@ use Rattle.f77_tree.specs.declared.unit.Ty.TheVariants as types
 use Rattle.f77_tree.specs.declared.unit.Unit.{Unit as SourceUnit}
 use Rattle.f77_tree.specs.declared.unit.UnitKind.{UnitKind}
 use Rattle.f77_tree.specs.declared.unit.UnitKind.TheVariants as kind
-use Rattle.f77_store.specs.declared.roles.Facts.{Facts}
-use Rattle.f77_store.specs.Names.{Name}
-use Rattle.f77_store.specs.Occurrences.{in_statement, in_head}
-use Rattle.f77_store.specs.Roles.{facts, type_of}
+use Rattle.f77_names.specs.declared.facts.Facts.{Facts}
+use Rattle.f77_values.specs.Tables.{Name}
+use Rattle.f77_names.specs.Occurrences.{in_statement, in_head}
+use Rattle.f77_names.specs.Roles.{facts, type_of}
 use Rattle.f77_store.specs.Layouts.{callee as callees_in, callees, callees_with}
 use Rattle.f77_semantics.specs.Units.{Program, callee, named}
 use Rattle.f77_semantics.specs.Effects.{Effects, HasSite, UnitOk, SiteOk, ProgramOk, type_of_result}

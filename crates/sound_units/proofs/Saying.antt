@@ -12,20 +12,20 @@ use Rattle.f77_tree.specs.declared.form.Form.TheFolds.{map-Form}
 use Rattle.f77_tree.specs.declared.form.Form.TheOpen.{Form-F}
 use Rattle.f77_tree.specs.declared.form.TypeWord.{TypeWord}
 use Rattle.f77_tree.specs.declared.unit.Stmt.{Stmt}
-use Rattle.f77_store.specs.declared.occurrences.Manner.{Manner}
-use Rattle.f77_store.specs.declared.occurrences.Manner.TheVariants as manner
-use Rattle.f77_store.specs.declared.occurrences.Occurrence.{Occurrence}
-use Rattle.f77_store.specs.declared.roles.Facts.{Facts}
-use Rattle.f77_store.specs.declared.roles.Role.{Role}
-use Rattle.f77_store.specs.declared.roles.Role.TheVariants as role
-use Rattle.f77_store.specs.Names.{Name}
-use Rattle.f77_store.specs.Types.{name_word}
-use Rattle.f77_store.specs.Roles as roles
-use Rattle.f77_store.specs.Roles.{is_function, role_type, type_of}
-use Rattle.f77_store.specs.Occurrences as occurring
-use Rattle.f77_store.specs.Occurrences.{Occurrences, occurs, expr_step, in_expr}
+use Rattle.f77_names.specs.declared.occurrences.Manner.{Manner}
+use Rattle.f77_names.specs.declared.occurrences.Manner.TheVariants as manner
+use Rattle.f77_names.specs.declared.occurrences.Occurrence.{Occurrence}
+use Rattle.f77_names.specs.declared.facts.Facts.{Facts}
+use Rattle.f77_names.specs.declared.roles.Role.{Role}
+use Rattle.f77_names.specs.declared.roles.Role.TheVariants as role
+use Rattle.f77_values.specs.Tables.{Name}
+use Rattle.f77_names.specs.Types.{name_word}
+use Rattle.f77_names.specs.Roles as roles
+use Rattle.f77_names.specs.Roles.{is_function, role_type, type_of}
+use Rattle.f77_names.specs.Occurrences as occurring
+use Rattle.f77_names.specs.Occurrences.{Occurrences, occurs, expr_step, in_expr}
 use Rattle.f77_store.specs.Layouts.{callee, callees_with}
-use Rattle.check_types.specs.Standings.{standing}
+use Rattle.f77_names.specs.Standings.{standing}
 use Rattle.f77_semantics.specs.Effects.{Effects}
 use Rattle.f77_semantics.specs.Terms.{Meant}
 use Rattle.prog_check.specs.declared.mentions.Mention.{Mention}

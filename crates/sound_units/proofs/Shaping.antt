@@ -14,12 +14,12 @@ use Rattle.f77_tree.specs.declared.unit.Ty.TheVariants as types
 use Rattle.f77_tree.specs.declared.unit.Value.{Value}
 use Rattle.f77_tree.specs.declared.unit.Value.TheVariants.{Integer, Logical}
 use Rattle.f77_store.specs.declared.areas.Place.{Place}
-use Rattle.f77_store.specs.declared.declarations.Shape.{Shape}
-use Rattle.f77_store.specs.declared.roles.Facts.{Facts}
-use Rattle.f77_store.specs.Constants.{value_of, with_statement, constants}
-use Rattle.f77_store.specs.Declarations.{word_of, declared, of_head, in_block, in_form, declarations_from, declarations, shape_told, shapes}
-use Rattle.f77_store.specs.Names.{Name, is_among, Told, what, saturated}
-use Rattle.f77_store.specs.Sizes.{Bounds, whole, lower, upper, span, between, extent, times, elements}
+use Rattle.f77_names.specs.declared.declarations.Shape.{Shape}
+use Rattle.f77_names.specs.declared.facts.Facts.{Facts}
+use Rattle.f77_values.specs.Constants.{value_of, with_statement, constants}
+use Rattle.f77_names.specs.Declarations.{word_of, declared, of_head, in_block, in_form, declarations_from, declarations, shape_told, shapes}
+use Rattle.f77_values.specs.Tables.{Name, is_among, Told, what, saturated}
+use Rattle.f77_values.specs.Sizes.{Bounds, whole, lower, upper, span, between, extent, times, elements}
 use Rattle.check_types.specs.declared.breaks.Rule.TheVariants.{Types, Exponents}
 use Rattle.check_types.specs.Breaks.{optional_breaks, bound_breaks}
 use Rattle.check_types.specs.Exponents.{has_wrong_exponent}
@@ -31,7 +31,7 @@ use Rattle.f77_semantics.specs.Units.{total}
 use Rattle.sound_units.specs.Sites.{Each}
 use Rattle.sound_units.proofs.Defining.{take_next}
 use Rattle.sound_units.proofs.Lists.{or_left, or_right, not_false, any-append, each_left, each_right}
-use Rattle.sound_units.proofs.Tables.{each_both, told_each, what_each}
+use Rattle.sound_units.proofs.Tables.{each_both, first_each, what_each}
 use Rattle.sound_units.proofs.Valuing.{ty_of, ConstantKnown, HasValue, constant_value, value_stays}
 
 -- ---- declarators, statement by statement
@@ -103,7 +103,7 @@ module _ (Q : Name × Shape → Type 0) where
     pub shape_is : (name : Name) (shape : Shape) → what (shapes (declarations ss)) name ≡ Some shape → Q (name, shape)
     shape_is name shape h =
         what_each Q (shapes (declarations ss)) name shape
-        (told_each Q (flat_map shape_told (declarations ss)) [] tt (from_here ss 0 (λ j s e. let same : 0 + j ≡ j = omega arith in ap (slice_get ss) same ∙ e))) h
+        (first_each Q (flat_map shape_told (declarations ss)) [] tt (from_here ss 0 (λ j s e. let same : 0 + j ≡ j = omega arith in ap (slice_get ss) same ∙ e))) h
 
 -- ---- constant bounds
 

@@ -5,15 +5,15 @@ use Rattle.f77_tree.specs.declared.unit.Ty.{Ty}
 use Rattle.f77_tree.specs.declared.unit.Ty.TheVariants as types
 use Rattle.f77_tree.specs.declared.unit.Unit.{Unit as SourceUnit}
 use Rattle.f77_store.specs.declared.areas.Place.{Place}
-use Rattle.f77_store.specs.declared.occurrences.Occurrence.{Occurrence}
-use Rattle.f77_store.specs.declared.roles.Facts.{Facts}
+use Rattle.f77_names.specs.declared.occurrences.Occurrence.{Occurrence}
+use Rattle.f77_names.specs.declared.facts.Facts.{Facts}
 use Rattle.f77_store.specs.declared.storage.Slot.{Slot}
-use Rattle.f77_store.specs.Blocks.{commons}
-use Rattle.f77_store.specs.Declarations.{declarations}
+use Rattle.f77_store.specs.Areas.{commons}
+use Rattle.f77_names.specs.Declarations.{declarations}
 use Rattle.f77_store.specs.Layouts.{is_dummy, is_variable, dummy_slot, own_slot, slot_of, common_places, local_places, slots}
-use Rattle.f77_store.specs.Names.{Name, name_eq, is_among, Told}
-use Rattle.f77_store.specs.Occurrences.{occurrences}
-use Rattle.f77_store.specs.Roles.{facts, role, type_of, known, in_order, names}
+use Rattle.f77_values.specs.Tables.{Name, name_eq, is_among, Told}
+use Rattle.f77_names.specs.Occurrences.{occurrences}
+use Rattle.f77_names.specs.Roles.{facts, role, type_of, known, in_order, names}
 use Rattle.f77_semantics.specs.Source.{slot_named}
 use Rattle.sound_units.proofs.Lists.{any-map}
 use Rattle.sound_units.proofs.Tables.{name_self, name_is, distinct_among}

@@ -3,9 +3,9 @@ use Rattle.std.proofs.Common.{◌≡◌, ℕ, zero, suc, Bool, true, false, cond
 use Rattle.std.specs.List.{list_any}
 use Rattle.std.specs.Cmp.Lexicographic.{same_text}
 use Rattle.std.proofs.lemmas.Cmp.{nat_list_eq_equiv}
-use Rattle.f77_store.specs.declared.occurrences.Manner.{Manner}
-use Rattle.f77_store.specs.Names.{Name, name_eq, is_among, with_name, distinct, what, Told, with_told, with_pair}
-use Rattle.f77_store.specs.Occurrences.{Occurrences, is_manner, names_that}
+use Rattle.f77_names.specs.declared.occurrences.Manner.{Manner}
+use Rattle.f77_values.specs.Tables.{Name, name_eq, is_among, with_name, distinct, what, Told, with_told, with_pair, with_first}
+use Rattle.f77_names.specs.Occurrences.{Occurrences, is_manner, names_that}
 use Rattle.sound_units.specs.Sites.{Each}
 use Rattle.sound_units.proofs.Giving.{any_left, any_right, occurs_so}
 use Rattle.sound_units.proofs.Lists.{any-append}
@@ -145,6 +145,17 @@ module _ {A : Type 0} (Q : Name × A → Type 0) where
   pub told_each : (pairs : List (Name × A)) (es : Told A) → Each Q es → Each Q pairs → Each Q (fold with_pair es pairs)
   told_each [] es h k = h
   told_each (p ∷ pairs) es h k = told_each pairs (with_pair es p) (told_one es p.0 p.1 h k.0) k.1
+
+  first_one : (es : Told A) (p : Name × A) → Each Q es → Q p → Each Q (with_first es p)
+  first_one es p h q = go (is_some (what es p.0))
+    where
+      go : (b : Bool) → Each Q (if b then es else with_pair es p)
+      go true = h
+      go false = told_one es p.0 p.1 h q
+
+  pub first_each : (pairs : List (Name × A)) (es : Told A) → Each Q es → Each Q pairs → Each Q (fold with_first es pairs)
+  first_each [] es h k = h
+  first_each (p ∷ pairs) es h k = first_each pairs (with_first es p) (first_one es p h k.0) k.1
 
   pub what_each : (es : Told A) (q : Name) (v : A) → Each Q es → what es q ≡ Some v → Q (q, v)
   what_each [] q v h e = cc

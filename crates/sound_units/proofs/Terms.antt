@@ -13,23 +13,23 @@ use Rattle.f77_tree.specs.declared.unit.Ty.{Ty}
 use Rattle.f77_tree.specs.declared.unit.Ty.TheVariants as types
 use Rattle.f77_tree.specs.declared.unit.Value.{Value}
 use Rattle.f77_tree.specs.declared.unit.Value.TheVariants.{Integer, Logical}
-use Rattle.f77_store.specs.declared.intrinsics.Intrinsic.{Intrinsic}
-use Rattle.f77_store.specs.declared.intrinsics.Intrinsic.TheVariants.{Abs, Mod, Sign, Dim, Max, Min}
-use Rattle.f77_store.specs.declared.occurrences.Manner.TheVariants as manner
-use Rattle.f77_store.specs.declared.occurrences.Occurrence.{Occurrence}
-use Rattle.f77_store.specs.declared.roles.Facts.{Facts}
-use Rattle.f77_store.specs.Intrinsics.{intrinsic_of}
-use Rattle.f77_store.specs.Names.{Name, Told, what}
-use Rattle.f77_store.specs.Roles.{type_of, is_function}
-use Rattle.f77_store.specs.Occurrences.{Occurrences, occurs, expr_step, in_expr}
+use Rattle.f77_names.specs.declared.intrinsics.Intrinsic.{Intrinsic}
+use Rattle.f77_names.specs.declared.intrinsics.Intrinsic.TheVariants.{Abs, Mod, Sign, Dim, Max, Min}
+use Rattle.f77_names.specs.declared.occurrences.Manner.TheVariants as manner
+use Rattle.f77_names.specs.declared.occurrences.Occurrence.{Occurrence}
+use Rattle.f77_names.specs.declared.facts.Facts.{Facts}
+use Rattle.f77_names.specs.Intrinsics.{intrinsic_of}
+use Rattle.f77_values.specs.Tables.{Name, Told, what}
+use Rattle.f77_names.specs.Roles.{type_of, is_function}
+use Rattle.f77_names.specs.Occurrences.{Occurrences, occurs, expr_step, in_expr}
 use Rattle.f77_store.specs.Layouts.{callee, callees_with}
 use Rattle.check_types.specs.declared.places.Place.{Place}
 use Rattle.check_types.specs.declared.places.Place.TheVariants.{Value as Valued, Actual, Named}
-use Rattle.check_types.specs.declared.standings.Standing.{Standing}
-use Rattle.check_types.specs.declared.standings.Standing.TheVariants as standing
+use Rattle.f77_names.specs.declared.standings.Standing.{Standing}
+use Rattle.f77_names.specs.declared.standings.Standing.TheVariants as standing
 use Rattle.check_types.specs.declared.exponents.Reckoned.{Reckoned}
 use Rattle.check_types.specs.ExpressionTypes.{takes as wants_operands, gives as given_by, plain_type}
-use Rattle.check_types.specs.Standings.{standing_of, is_called, is_array, is_scalar}
+use Rattle.f77_names.specs.Standings.{standing_of, is_called, is_array, is_scalar}
 use Rattle.check_types.specs.Places.{wanted, member_place}
 use Rattle.check_types.specs.WrongTypes.{differs, takes_number, takes_arguments, is_miscalled, mistyped_step, is_mistyped}
 use Rattle.check_types.specs.Targets.{other_at, is_no_variable}

@@ -3,12 +3,12 @@ use Rattle.std.proofs.Common.{◌≡◌, ℕ, zero, suc, Bool, true, false, not,
 use Rattle.std.specs.List.{list_any}
 use Rattle.f77_tree.specs.declared.unit.Ty.{Ty}
 use Rattle.f77_tree.specs.declared.unit.Unit.{Unit as SourceUnit}
-use Rattle.f77_store.specs.declared.occurrences.Occurrence.{Occurrence}
-use Rattle.f77_store.specs.declared.roles.Facts.{Facts}
-use Rattle.f77_store.specs.Names.{Name, name_eq, is_among}
-use Rattle.f77_store.specs.Occurrences.{Occurrences}
-use Rattle.f77_store.specs.Roles.{facts}
-use Rattle.f77_store.specs.Types.{name_word, storage_type}
+use Rattle.f77_names.specs.declared.occurrences.Occurrence.{Occurrence}
+use Rattle.f77_names.specs.declared.facts.Facts.{Facts}
+use Rattle.f77_values.specs.Tables.{Name, name_eq, is_among}
+use Rattle.f77_names.specs.Occurrences.{Occurrences}
+use Rattle.f77_names.specs.Roles.{facts}
+use Rattle.f77_names.specs.Types.{name_word, storage_type}
 use Rattle.check_names.specs.Places.{before, occurrences_at}
 use Rattle.check_names.specs.Untyped.{has_type, lacks_type, is_new_untyped, names_in, seen_before}
 use Rattle.sound_units.proofs.Giving.{among_distinct}

@@ -9,17 +9,17 @@ use Rattle.f77_tree.specs.declared.unit.Ty.{Ty}
 use Rattle.f77_tree.specs.declared.unit.Ty.TheVariants as types
 use Rattle.f77_tree.specs.declared.unit.Value.{Value}
 use Rattle.f77_tree.specs.declared.unit.Value.TheVariants.{Integer, Logical}
-use Rattle.f77_store.specs.declared.roles.Facts.{Facts}
-use Rattle.f77_store.specs.Arithmetic.{wrap, power, integer, operate, negated, kept, denied}
-use Rattle.f77_store.specs.Constants.{applied, operated, value_step, value_of}
-use Rattle.f77_store.specs.Names.{Name, Told, what}
-use Rattle.f77_store.specs.Roles.{type_of}
+use Rattle.f77_names.specs.declared.facts.Facts.{Facts}
+use Rattle.f77_values.specs.Arithmetic.{wrap, power, integer, operate, negated, kept, denied}
+use Rattle.f77_values.specs.Constants.{applied, operated, value_step, value_of}
+use Rattle.f77_values.specs.Tables.{Name, Told, what}
+use Rattle.f77_names.specs.Roles.{type_of}
 use Rattle.check_types.specs.declared.exponents.Reckoned.{Reckoned}
 use Rattle.check_types.specs.declared.places.Place.{Place}
 use Rattle.check_types.specs.declared.places.Place.TheVariants.{Value as Valued}
 use Rattle.check_types.specs.ExpressionTypes.{takes, gives, plain_type}
 use Rattle.check_types.specs.Exponents.{is_no_exponent, reckoned_step, reckoned, has_wrong_exponent}
-use Rattle.check_types.specs.Standings.{standing_of, is_called}
+use Rattle.f77_names.specs.Standings.{standing_of, is_called}
 use Rattle.check_types.specs.WrongTypes.{differs, mistyped_step, is_mistyped}
 use Rattle.check_types.proofs.Agreeing.{has_value}
 use Rattle.check_constants.specs.declared.expressions.Judged.{Judged}

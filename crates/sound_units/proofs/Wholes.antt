@@ -11,20 +11,20 @@ use Rattle.f77_tree.specs.declared.unit.Unit.{Unit as SourceUnit}
 use Rattle.f77_tree.specs.declared.unit.UnitKind.{UnitKind}
 use Rattle.f77_tree.specs.declared.unit.UnitKind.TheVariants as kind
 use Rattle.f77_tree.specs.declared.unit.Value.{Value}
-use Rattle.f77_store.specs.declared.occurrences.Manner.TheVariants as manner
-use Rattle.f77_store.specs.declared.roles.Facts.{Facts}
-use Rattle.f77_store.specs.Names.{Name, Told, what}
-use Rattle.f77_store.specs.Constants.{constants}
-use Rattle.f77_store.specs.Occurrences as occurring
-use Rattle.f77_store.specs.Occurrences.{Occurrences, in_statement, in_head, own_name}
-use Rattle.f77_store.specs.Roles.{facts}
+use Rattle.f77_names.specs.declared.occurrences.Manner.TheVariants as manner
+use Rattle.f77_names.specs.declared.facts.Facts.{Facts}
+use Rattle.f77_values.specs.Tables.{Name, Told, what}
+use Rattle.f77_values.specs.Constants.{constants}
+use Rattle.f77_names.specs.Occurrences as occurring
+use Rattle.f77_names.specs.Occurrences.{Occurrences, in_statement, in_head, own_name}
+use Rattle.f77_names.specs.Roles.{facts}
 use Rattle.f77_store.specs.Layouts.{callee, callees, callees_with}
 use Rattle.check_types.specs.declared.breaks.Rule.TheVariants.{Types, Scalars, Targets, Exponents}
 use Rattle.check_types.specs.Breaks.{form_step, form_breaks}
 use Rattle.check_types.specs.Overreaching.{overreaches_in}
-use Rattle.check_types.specs.Standings.{standing_of, is_scalar}
-use Rattle.check_types.specs.declared.standings.Standing.{Standing}
-use Rattle.check_types.specs.declared.standings.Standing.TheVariants as standing
+use Rattle.f77_names.specs.Standings.{standing_of, is_scalar}
+use Rattle.f77_names.specs.declared.standings.Standing.{Standing}
+use Rattle.f77_names.specs.declared.standings.Standing.TheVariants as standing
 use Rattle.f77_flow.specs.Checks.{PassedChecks}
 use Rattle.f77_flow.specs.Graph.{Point, At, Inside, Test, follow, ways, inner_ways, leaving}
 use Rattle.f77_flow.specs.Labels.{has_range}

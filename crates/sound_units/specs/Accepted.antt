@@ -7,10 +7,10 @@ use Rattle.f77_tree.specs.declared.unit.Stmt.{Stmt}
 use Rattle.f77_tree.specs.declared.unit.Unit.{Unit as SourceUnit}
 use Rattle.f77_tree.specs.declared.unit.UnitKind.TheVariants as kind
 use Rattle.f77_tree.specs.declared.unit.Value.{Value}
-use Rattle.f77_store.specs.Names.{Name, what}
-use Rattle.f77_store.specs.Constants.{constants}
-use Rattle.f77_store.specs.Occurrences.{in_statement}
-use Rattle.f77_store.specs.Roles.{facts}
+use Rattle.f77_values.specs.Tables.{Name, what}
+use Rattle.f77_values.specs.Constants.{constants}
+use Rattle.f77_names.specs.Occurrences.{in_statement}
+use Rattle.f77_names.specs.Roles.{facts}
 use Rattle.f77_semantics.specs.Terms as names
 use Rattle.f77_semantics.specs.Effects.{EntryOk}
 use Rattle.f77_semantics.specs.Source.{is_main, routine}

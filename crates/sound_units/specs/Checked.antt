@@ -5,19 +5,19 @@ use Rattle.f77_tree.specs.declared.expr.Expr.{Expr, out-Expr}
 use Rattle.f77_tree.specs.declared.unit.Ty.{Ty}
 use Rattle.f77_tree.specs.declared.unit.Ty.TheVariants as types
 use Rattle.f77_tree.specs.declared.unit.Value.{Value}
-use Rattle.f77_store.specs.declared.intrinsics.Intrinsic.{Intrinsic}
-use Rattle.f77_store.specs.declared.occurrences.Manner.{Manner}
-use Rattle.f77_store.specs.declared.occurrences.Manner.TheVariants as manner
-use Rattle.f77_store.specs.declared.occurrences.Occurrence.{Occurrence}
-use Rattle.f77_store.specs.declared.roles.Facts.{Facts}
-use Rattle.f77_store.specs.Intrinsics.{intrinsic_of}
-use Rattle.f77_store.specs.Names.{Name, Told}
-use Rattle.f77_store.specs.Roles.{type_of}
+use Rattle.f77_names.specs.declared.intrinsics.Intrinsic.{Intrinsic}
+use Rattle.f77_names.specs.declared.occurrences.Manner.{Manner}
+use Rattle.f77_names.specs.declared.occurrences.Manner.TheVariants as manner
+use Rattle.f77_names.specs.declared.occurrences.Occurrence.{Occurrence}
+use Rattle.f77_names.specs.declared.facts.Facts.{Facts}
+use Rattle.f77_names.specs.Intrinsics.{intrinsic_of}
+use Rattle.f77_values.specs.Tables.{Name, Told}
+use Rattle.f77_names.specs.Roles.{type_of}
 use Rattle.check_types.specs.declared.places.Place.{Place}
 use Rattle.check_types.specs.declared.places.Place.TheVariants.{Value as Valued, Actual, Named}
-use Rattle.check_types.specs.declared.standings.Standing.{Standing}
-use Rattle.check_types.specs.declared.standings.Standing.TheVariants as standing
-use Rattle.check_types.specs.Standings.{standing_of}
+use Rattle.f77_names.specs.declared.standings.Standing.{Standing}
+use Rattle.f77_names.specs.declared.standings.Standing.TheVariants as standing
+use Rattle.f77_names.specs.Standings.{standing_of}
 use Rattle.check_types.specs.WrongTypes.{differs, is_mistyped}
 use Rattle.check_types.specs.Scalars.{is_misplaced}
 use Rattle.check_types.specs.Exponents.{has_wrong_exponent}

@@ -2,11 +2,11 @@
 use Rattle.std.specs.Prelude.{◌≡◌, ℕ, ℤ, true, List, take}
 use Rattle.f77_tree.specs.declared.expr.Expr.{Expr}
 use Rattle.f77_tree.specs.declared.unit.Unit.{Unit as SourceUnit}
-use Rattle.f77_store.specs.Constants.{constants}
-use Rattle.f77_store.specs.Occurrences.{in_expr}
-use Rattle.f77_store.specs.declared.roles.Role.TheVariants as roles
-use Rattle.f77_store.specs.Names.{Name, is_among}
-use Rattle.f77_store.specs.Roles.{facts, role}
+use Rattle.f77_values.specs.Constants.{constants}
+use Rattle.f77_names.specs.Occurrences.{in_expr}
+use Rattle.f77_names.specs.declared.roles.Role.TheVariants as roles
+use Rattle.f77_values.specs.Tables.{Name, is_among}
+use Rattle.f77_names.specs.Roles.{facts, role}
 use Rattle.f77_store.specs.Layouts.{callees, callees_with}
 use Rattle.check_types.specs.declared.places.Place.{Place}
 use Rattle.f77_check.specs.UnitFaults.{IsSound}

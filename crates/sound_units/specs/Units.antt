@@ -3,10 +3,10 @@ use Rattle.std.specs.Prelude.{ℕ, true, not, List, [], ◌∷◌, ◌++◌, Opt
 use Rattle.f77_tree.specs.declared.unit.Stmt.{Stmt}
 use Rattle.f77_tree.specs.declared.unit.Ty.{Ty}
 use Rattle.f77_tree.specs.declared.unit.Unit.{Unit as SourceUnit}
-use Rattle.f77_store.specs.declared.roles.Facts.{Facts}
-use Rattle.f77_store.specs.Names.{Name}
-use Rattle.f77_store.specs.Occurrences.{in_statement}
-use Rattle.f77_store.specs.Roles.{facts, type_of}
+use Rattle.f77_names.specs.declared.facts.Facts.{Facts}
+use Rattle.f77_values.specs.Tables.{Name}
+use Rattle.f77_names.specs.Occurrences.{in_statement}
+use Rattle.f77_names.specs.Roles.{facts, type_of}
 use Rattle.f77_store.specs.Layouts.{slots, callees, callees_with}
 use Rattle.f77_semantics.specs.Program.{Terms, End, Statement}
 use Rattle.f77_semantics.specs.Terms.{Meant}

@@ -14,8 +14,8 @@ use Rattle.f77_tree.specs.declared.form.Form.TheOpen.{Form-F}
 use Rattle.f77_tree.specs.declared.form.Form.TheVariants as form
 use Rattle.f77_tree.specs.declared.form.Form.TheViews.{outs-Assign, outs-Print, outs-End}
 use Rattle.f77_tree.specs.declared.unit.Stmt.{Stmt}
-use Rattle.f77_store.specs.declared.occurrences.Manner.TheVariants.{Plain}
-use Rattle.f77_store.specs.Occurrences.{Occurrences, occurs, expr_step, form_step, in_expr, in_form, in_statement}
+use Rattle.f77_names.specs.declared.occurrences.Manner.TheVariants.{Plain}
+use Rattle.f77_names.specs.Occurrences.{Occurrences, occurs, expr_step, form_step, in_expr, in_form, in_statement}
 use Rattle.thin_form.specs.declared.statement.Term.{Term}
 use Rattle.thin_form.specs.declared.statement.Addend.{Addend}
 use Rattle.thin_form.specs.declared.statement.Item.{Item}

@@ -13,9 +13,9 @@ use Rattle.f77_tree.specs.declared.form.Form.{Form, out-Form}
 use Rattle.f77_tree.specs.declared.form.Form.TheViews.{outs-Assign, outs-Print, outs-End}
 use Rattle.f77_tree.specs.declared.unit.Stmt.{Stmt}
 use Rattle.f77_tree.specs.declared.unit.Ty.TheVariants as types
-use Rattle.f77_store.specs.declared.roles.Facts.{Facts}
-use Rattle.f77_store.specs.Names.{is_among, with_name, distinct}
-use Rattle.f77_store.specs.Occurrences.{in_statement}
+use Rattle.f77_names.specs.declared.facts.Facts.{Facts}
+use Rattle.f77_values.specs.Tables.{is_among, with_name, distinct}
+use Rattle.f77_names.specs.Occurrences.{in_statement}
 use Rattle.f77_store.specs.Layouts.{callees_with}
 use Rattle.f77_semantics.specs.Program as program
 use Rattle.f77_semantics.specs.Program.{Term, Own}

@@ -10,18 +10,18 @@ use Rattle.f77_tree.specs.declared.unit.Stmt.{Stmt}
 use Rattle.f77_tree.specs.declared.unit.Ty.TheVariants as types
 use Rattle.f77_tree.specs.declared.unit.Unit.{Unit as SourceUnit}
 use Rattle.f77_tree.specs.declared.unit.Value.{Value}
-use Rattle.f77_store.specs.declared.attributes.Attributes.{Attributes}
-use Rattle.f77_store.specs.declared.occurrences.Manner.{Manner}
-use Rattle.f77_store.specs.declared.occurrences.Manner.TheVariants as manner
-use Rattle.f77_store.specs.declared.occurrences.Occurrence.{Occurrence}
-use Rattle.f77_store.specs.declared.roles.Facts.{Facts}
-use Rattle.f77_store.specs.declared.roles.Role.TheVariants.{Scalar}
-use Rattle.f77_store.specs.Names.{Told, distinct}
-use Rattle.f77_store.specs.Constants.{with_statement, form_constants}
-use Rattle.f77_store.specs.Declarations.{in_form, declarations_from, declarations, words, shapes}
-use Rattle.f77_store.specs.Occurrences.{occurs, own_name, in_head, occurrences, is_manner, names_that}
-use Rattle.f77_store.specs.Roles.{attributes, facts, role, type_of, known, names_with, names}
-use Rattle.f77_store.specs.Types.{form_rules, statement_rules, rules, is_none, has_none, letter_word, storage_type}
+use Rattle.f77_names.specs.declared.attributes.Attributes.{Attributes}
+use Rattle.f77_names.specs.declared.occurrences.Manner.{Manner}
+use Rattle.f77_names.specs.declared.occurrences.Manner.TheVariants as manner
+use Rattle.f77_names.specs.declared.occurrences.Occurrence.{Occurrence}
+use Rattle.f77_names.specs.declared.facts.Facts.{Facts}
+use Rattle.f77_names.specs.declared.roles.Role.TheVariants.{Scalar}
+use Rattle.f77_values.specs.Tables.{Told, distinct}
+use Rattle.f77_values.specs.Constants.{with_statement, form_constants}
+use Rattle.f77_names.specs.Declarations.{in_form, declarations_from, declarations, words, shapes}
+use Rattle.f77_names.specs.Occurrences.{occurs, own_name, in_head, occurrences, is_manner, names_that}
+use Rattle.f77_names.specs.Roles.{attributes, facts, role, type_of, known, names_with, names}
+use Rattle.f77_names.specs.Types.{form_rules, statement_rules, rules, is_none, has_none, letter_word, storage_type}
 use Rattle.thin_form.specs.declared.statement.Statement.{Statement}
 use Rattle.thin_code.specs.Layout.{statement_names, names_of}
 use Rattle.thin_meaning.specs.Units.{IsThinStmt, IsThinUnit}

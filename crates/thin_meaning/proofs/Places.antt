@@ -11,13 +11,13 @@ use Rattle.f77_tree.specs.declared.unit.Ty.TheVariants as types
 use Rattle.f77_tree.specs.declared.unit.Unit.{Unit as SourceUnit}
 use Rattle.f77_store.specs.declared.areas.Member.{Member}
 use Rattle.f77_store.specs.declared.areas.Place.{Place}
-use Rattle.f77_store.specs.declared.roles.Known.{Known}
-use Rattle.f77_store.specs.declared.roles.Role.TheVariants.{Scalar}
+use Rattle.f77_names.specs.declared.roles.Known.{Known}
+use Rattle.f77_names.specs.declared.roles.Role.TheVariants.{Scalar}
 use Rattle.f77_store.specs.declared.storage.Slot.{Slot}
-use Rattle.f77_store.specs.Names.{is_among, with_name, distinct, Told, what, with_told, with_pair, told, saturated}
-use Rattle.f77_store.specs.Blocks.{total, place_at, placed, places, commons}
-use Rattle.f77_store.specs.Declarations.{declarations}
-use Rattle.f77_store.specs.Roles.{facts, known}
+use Rattle.f77_values.specs.Tables.{is_among, with_name, distinct, Told, what, with_told, with_pair, told, saturated}
+use Rattle.f77_store.specs.Areas.{total, place_at, placed, places, commons}
+use Rattle.f77_names.specs.Declarations.{declarations}
+use Rattle.f77_names.specs.Roles.{facts, known}
 use Rattle.f77_store.specs.Layouts.{from_of, locals, own_slot, slot_of, sizes, slots_with, local_size_with, slots, local_size}
 use Rattle.f77_semantics.specs.Program.{Own}
 use Rattle.f77_semantics.specs.Terms.{Variable, meant_as}

@@ -3,7 +3,7 @@ use Rattle.std.proofs.Common.{◌≡◌, ℕ, ◌≤◌, true, Some, List, [], �
 use Rattle.f77_tree.specs.declared.form.Form.{out-Form}
 use Rattle.f77_tree.specs.declared.unit.Unit.{Unit as SourceUnit}
 use Rattle.run_model.specs.Storage.{Name}
-use Rattle.f77_store.specs.Roles.{facts}
+use Rattle.f77_names.specs.Roles.{facts}
 use Rattle.f77_store.specs.Layouts.{slots}
 use Rattle.f77_semantics.specs.Terms.{Meant}
 use Rattle.f77_semantics.specs.Resolve.{statements_from}

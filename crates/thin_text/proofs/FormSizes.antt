@@ -8,22 +8,22 @@ use Rattle.f77_tree.specs.declared.form.Form.TheOpen.{Form-F}
 use Rattle.f77_tree.specs.declared.form.Form.TheVariants as f
 use Rattle.f77_expr.specs.declared.token.Kind.TheVariants as k
 use Rattle.f77_expr.specs.Kinds.{Tokens}
-use Rattle.f77_forms.specs.declared.keywords.Keyword.{Keyword}
-use Rattle.f77_forms.specs.declared.keywords.Keyword.TheVariants as word
-use Rattle.f77_forms.specs.declared.statement_kinds.StatementKind.{StatementKind}
-use Rattle.f77_forms.specs.declared.statement_kinds.StatementKind.TheVariants as kind
-use Rattle.f77_forms.specs.Answers.{InTokens}
-use Rattle.f77_forms.specs.Assignment.{IsAssignment}
+use Rattle.form_kinds.specs.declared.keywords.Keyword.{Keyword}
+use Rattle.form_kinds.specs.declared.keywords.Keyword.TheVariants as word
+use Rattle.form_kinds.specs.declared.statement_kinds.StatementKind.{StatementKind}
+use Rattle.form_kinds.specs.declared.statement_kinds.StatementKind.TheVariants as kind
+use Rattle.form_parts.specs.Answers.{InTokens}
+use Rattle.form_execution.specs.Assignment.{IsAssignment}
 use Rattle.f77_forms.specs.Forms.{HasForm, plain, logical_if, KindForm, IsWorded, head, by_word, WordForm}
 use Rattle.f77_forms.specs.HeadForms as h
-use Rattle.f77_forms.specs.InputOutput.{IsItem, value as by_value, literal as by_literal, IsPrint, alone as printed_alone, listed as printed_list}
-use Rattle.f77_forms.specs.Keywords.{keyword_of, behind}
-use Rattle.f77_forms.specs.Listed.{Listed, last, more}
-use Rattle.f77_forms.specs.Parts.{IsVariable, plain as by_name, element}
+use Rattle.form_execution.specs.InputOutput.{IsItem, value as by_value, literal as by_literal, IsPrint, alone as printed_alone, listed as printed_list}
+use Rattle.form_kinds.specs.Keywords.{keyword_of, behind}
+use Rattle.form_parts.specs.Listed.{Listed, last, more}
+use Rattle.form_parts.specs.Parts.{IsVariable, plain as by_name, element}
 use Rattle.f77_expr.specs.Grammar.{ReadsExpression}
 use Rattle.f77_tree.specs.declared.expr.Expr.TheOpen.{Expr-F}
 use Rattle.f77_tree.specs.declared.expr.Expr.{out-Expr}
-use Rattle.f77_forms.specs.Transfer as x
+use Rattle.form_execution.specs.Transfer as x
 use Rattle.thin_form.specs.declared.statement.Addend.{Addend}
 use Rattle.thin_form.specs.declared.statement.Term.{Term}
 use Rattle.thin_form.specs.declared.statement.Item.{Item}

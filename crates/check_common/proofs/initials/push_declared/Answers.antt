@@ -1,5 +1,5 @@
 use Rattle.std.proofs.Common.{sym, ap, ◌∙◌}
-use Rattle.f77_store.specs.Blocks.{commons}
+use Rattle.f77_store.specs.Areas.{commons}
 use Rattle.check_common.proofs.Gathering.{unit_without_common}
 use Rattle.check_common.proofs.initials.push_declared.Goals as goal
 

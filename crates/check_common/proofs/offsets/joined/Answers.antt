@@ -1,6 +1,6 @@
 use Rattle.std.proofs.Common.{Some, sym, ap, ap₂, ◌∙◌}
 use Rattle.std.specs.Option.{option_map}
-use Rattle.f77_store.specs.Names.{saturated}
+use Rattle.f77_values.specs.Tables.{saturated}
 use Rattle.check_common.specs.Storage as s
 use Rattle.check_common.proofs.Elements.{step_saturated}
 use Rattle.check_common.proofs.offsets.joined.Goals as goal

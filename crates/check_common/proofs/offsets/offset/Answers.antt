@@ -1,6 +1,6 @@
 use Rattle.std.proofs.Common.{sym, ap, ◌∙◌}
 use Rattle.std.specs.Option.{option_map}
-use Rattle.f77_store.specs.Names.{saturated}
+use Rattle.f77_values.specs.Tables.{saturated}
 use Rattle.check_common.proofs.Elements.{found_more, lacks, unlike}
 use Rattle.check_common.proofs.offsets.offset.Goals as goal
 

@@ -1,6 +1,6 @@
 use Rattle.std.proofs.Common.{◌≡◌, Some, drop}
 use Rattle.std.specs.Option.{option_map}
-use Rattle.f77_store.specs.Names.{saturated}
+use Rattle.f77_values.specs.Tables.{saturated}
 use Rattle.check_common.specs.Storage.{offset}
 use Rattle.check_common.proofs.offsets.offset.Given as goal
 

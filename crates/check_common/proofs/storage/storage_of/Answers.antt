@@ -1,7 +1,7 @@
 use Rattle.std.proofs.Common.{ap, ap₂, ◌∙◌}
-use Rattle.f77_store.specs.Blocks.{commons}
-use Rattle.f77_store.specs.Declarations.{shapes}
-use Rattle.f77_store.proofs.Given.{if_ok}
+use Rattle.f77_store.specs.Areas.{commons}
+use Rattle.f77_names.specs.Declarations.{shapes}
+use Rattle.f77_values.proofs.Given.{if_ok}
 use Rattle.check_common.specs.Storage.{storage_with}
 use Rattle.check_common.proofs.storage.storage_of.Goals as goal
 

@@ -1,6 +1,6 @@
 use Rattle.std.proofs.Common.{rules, ◌+◌, ◌++◌, ◌∷◌, [], Some, SFits, w64, drop, ap, ◌∙◌}
 use Rattle.std.proofs.lemmas.Int.{to_z-of_z}
-use Rattle.f77_store.specs.Sizes.{whole}
+use Rattle.f77_values.specs.Sizes.{whole}
 use Rattle.check_constants.specs.DataTwice as t
 use Rattle.check_constants.proofs.Givings.{behind, behind_nothing, subscript_more, subscript_lacks, subscripts_end}
 use Rattle.check_constants.proofs.given.subscripts.Goals as goal

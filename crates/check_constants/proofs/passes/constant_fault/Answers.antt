@@ -1,5 +1,5 @@
 use Rattle.std.proofs.Common.{ap₂, ◌∙◌}
-use Rattle.f77_store.specs.Roles.{facts}
+use Rattle.f77_names.specs.Roles.{facts}
 use Rattle.check_constants.specs.Defined.{with_statement, nothing}
 use Rattle.check_constants.specs.Needed.{statement_lacks}
 use Rattle.check_constants.specs.Passes.{flags_from}

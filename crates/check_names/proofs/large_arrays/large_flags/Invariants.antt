@@ -1,6 +1,6 @@
 use Rattle.std.proofs.Common.{◌≡◌, map, take}
 use Rattle.std.specs.List.{range_with_len}
-use Rattle.f77_store.specs.Constants.{constants}
+use Rattle.f77_values.specs.Constants.{constants}
 use Rattle.check_names.specs.LargeArrays.{large_at}
 use Rattle.check_names.proofs.large_arrays.large_flags.Given as goal
 

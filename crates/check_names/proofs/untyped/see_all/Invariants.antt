@@ -1,5 +1,5 @@
 use Rattle.std.proofs.Common.{◌≡◌, drop, fold}
-use Rattle.f77_store.specs.Names.{with_name}
+use Rattle.f77_values.specs.Tables.{with_name}
 use Rattle.check_names.specs.Untyped.{names_in}
 use Rattle.check_names.proofs.untyped.see_all.Given as goal
 

@@ -1,6 +1,6 @@
 use Rattle.std.proofs.Common.{◌≡◌, drop, fold}
 use Rattle.std.specs.Prelude.{◌||◌}
-use Rattle.f77_store.specs.Constants.{with_constant}
+use Rattle.f77_values.specs.Constants.{with_constant}
 use Rattle.check_types.specs.Overreaching.{definitions_overreach}
 use Rattle.check_types.proofs.overreaching.definitions_overreach.Given as goal
 

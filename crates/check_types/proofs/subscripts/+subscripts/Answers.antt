@@ -1,6 +1,6 @@
 use Rattle.std.proofs.Common.{◌≡◌, length, ap, sym, ◌∙◌}
 use Rattle.std.specs.Prelude.{◌||◌}
-use Rattle.check_types.specs.Standings.{rank_of}
+use Rattle.f77_names.specs.Standings.{rank_of}
 use Rattle.check_types.specs.Subscripts.{miscounts, is_miscounted}
 use Rattle.check_types.proofs.Members.{miscounted-Apply}
 use Rattle.check_types.proofs.subscripts.+subscripts.Goals as goal

@@ -1,9 +1,9 @@
 use Rattle.std.proofs.Common.{◌≡◌, length, ap, sym, ◌∙◌}
 use Rattle.std.specs.Prelude.{◌||◌}
 use Rattle.std.specs.List.{list_any}
-use Rattle.f77_store.specs.Roles.{type_of}
+use Rattle.f77_names.specs.Roles.{type_of}
 use Rattle.check_types.specs.Places.{wanted, member_place}
-use Rattle.check_types.specs.Standings.{standing_of}
+use Rattle.f77_names.specs.Standings.{standing_of}
 use Rattle.check_types.specs.WrongTypes.{differs, is_miscalled, is_mistyped}
 use Rattle.check_types.proofs.Members.{mistyped-Apply}
 use Rattle.check_types.proofs.wrong_types.+types.Goals as goal

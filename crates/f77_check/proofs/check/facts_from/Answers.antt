@@ -1,5 +1,5 @@
 use Rattle.std.proofs.Common.{ap, ◌∙◌}
-use Rattle.f77_store.specs.Roles.{facts_with}
+use Rattle.f77_names.specs.Roles.{facts_with}
 use Rattle.f77_check.proofs.check.facts_from.Goals as goal
 
 pub returns : goal.returns

@@ -3,4 +3,4 @@ use Rattle.f77_expr.proofs.parser.expression.Goals as goal
 
 pub returns-in-Some-clause-longest : goal.returns-in-Some-clause-longest
 returns-in-Some-clause-longest c =
-    best_at c.args.tokens.now c.args.from c.requires (rw (c.in-Some.is, c.split_at.ensures.back) at c.in_ok-read.ensures)
+    best_at c.args.tokens.now c.args.from (rw (c.in-Some.is, c.behind-rest.ensures) at c.in_ok-read.ensures)

@@ -1,5 +1,5 @@
-use Rattle.f77_forms.specs.Transfer.{IsArithmeticIf}
-use Rattle.f77_forms.proofs.Answered.{never_tokens}
+use Rattle.form_execution.specs.Transfer.{IsArithmeticIf}
+use Rattle.form_parts.proofs.Answered.{never_tokens}
 use Rattle.f77_forms.proofs.FormTables.{never_behind, never_if, found_behind}
 use Rattle.f77_forms.proofs.form.arithmetic_if_in.Goals as goal
 

@@ -1,7 +1,7 @@
 use Rattle.f77_tree.specs.declared.form.Form.TheVariants as f
-use Rattle.f77_forms.specs.Answers.{Made}
-use Rattle.f77_forms.specs.Control.{IsTest}
-use Rattle.f77_forms.proofs.Answered.{sole_in, never_in, never_tokens, sole_made, never_made}
+use Rattle.form_parts.specs.Answers.{Made}
+use Rattle.form_execution.specs.Control.{IsTest}
+use Rattle.form_parts.proofs.Answered.{sole_in, never_in, never_tokens, sole_made, never_made}
 use Rattle.f77_forms.proofs.FormTables.{sole_behind, never_behind, never_if}
 use Rattle.f77_forms.proofs.form.block_if.Goals as goal
 

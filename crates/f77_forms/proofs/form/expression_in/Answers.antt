@@ -1,5 +1,5 @@
-use Rattle.f77_forms.specs.Control.{IsExpression}
-use Rattle.f77_forms.proofs.Answered.{never_tokens, found_in}
+use Rattle.form_parts.specs.Parts.{IsExpression}
+use Rattle.form_parts.proofs.Answered.{never_tokens, found_in}
 use Rattle.f77_forms.proofs.form.expression_in.Goals as goal
 
 pub returns-in_default : goal.returns-in_default

@@ -1,6 +1,6 @@
 use Rattle.std.proofs.Common.{sym, ◌∙◌}
 use Rattle.f77_forms.proofs.HeadParts.{never_block, sole_block}
-use Rattle.f77_forms.proofs.NextToken.{filled}
+use Rattle.form_parts.proofs.NextToken.{filled}
 use Rattle.f77_forms.proofs.head_forms.block.Goals as goal
 
 pub returns-in_default : goal.returns-in_default

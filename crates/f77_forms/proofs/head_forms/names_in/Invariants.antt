@@ -1,6 +1,6 @@
 use Rattle.std.proofs.Common.{List, ◌++◌, length}
 use Rattle.f77_expr.specs.Spelling.{Text}
-use Rattle.f77_forms.specs.Only.{Sole, Never}
+use Rattle.form_parts.specs.Only.{Sole, Never}
 use Rattle.f77_forms.specs.HeadForms.{AreNamesIn}
 use Rattle.f77_forms.proofs.head_forms.names_in.Given as goal
 

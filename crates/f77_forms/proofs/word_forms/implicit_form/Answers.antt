@@ -1,5 +1,5 @@
 use Rattle.f77_tree.specs.declared.form.Form.TheVariants as f
-use Rattle.f77_forms.proofs.Answered.{sole_made, never_made}
+use Rattle.form_parts.proofs.Answered.{sole_made, never_made}
 use Rattle.f77_forms.proofs.word_forms.implicit_form.Goals as goal
 
 pub returns-in_default : goal.returns-in_default

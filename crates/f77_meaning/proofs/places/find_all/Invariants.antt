@@ -1,7 +1,7 @@
 use Rattle.std.proofs.Common.{◌≡◌, List, ◌++◌, drop, map}
 use Rattle.indexmap.specs.IndexMap.{get}
 use Rattle.f77_tree.specs.declared.unit.Unit.{Unit}
-use Rattle.f77_store.specs.Names.{Name, name_eq}
+use Rattle.f77_values.specs.Tables.{Name, name_eq}
 use Rattle.f77_meaning.specs.Places.{place_from, find_of}
 use Rattle.f77_meaning.proofs.places.find_all.Given as goal
 

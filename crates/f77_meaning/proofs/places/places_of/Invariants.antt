@@ -1,6 +1,6 @@
 use Rattle.std.proofs.Common.{◌≡◌, drop}
 use Rattle.indexmap.specs.IndexMap.{get}
-use Rattle.f77_store.specs.Names.{Name, name_eq}
+use Rattle.f77_values.specs.Tables.{Name, name_eq}
 use Rattle.f77_meaning.specs.Places.{place_from, or_else}
 use Rattle.f77_meaning.proofs.places.places_of.Given as goal
 

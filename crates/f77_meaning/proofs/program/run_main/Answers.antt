@@ -8,7 +8,7 @@ use Rattle.interp_calls.specs.Sending.{Sends}
 use Rattle.f77_semantics.specs.Source.{routine}
 use Rattle.f77_semantics.specs.Units.{Program, meaning, named}
 use Rattle.interp_steps.specs.Worlds.{world_of}
-use Rattle.f77_store.specs.Names.{Name}
+use Rattle.f77_values.specs.Tables.{Name}
 use Rattle.f77_meaning.specs.Places.{find_of}
 use Rattle.f77_meaning.proofs.Placing.{found_at, mapped_at}
 use Rattle.f77_meaning.proofs.Telling.{answering}

@@ -1,5 +1,5 @@
 use Rattle.std.proofs.Common.{List, ℕ, sym, subst}
-use Rattle.f77_forms.specs.Only.{Never, Sole}
+use Rattle.form_parts.specs.Only.{Never, Sole}
 use Rattle.f77_forms.specs.Forms.{HasForm}
 use Rattle.f77_tree.specs.declared.unit.UnitKind.TheVariants as unit
 use Rattle.f77_parse.specs.Statements.{HasHead}

@@ -1,5 +1,5 @@
 use Rattle.std.proofs.Common.{◌≡◌, ◌++◌, drop, map}
-use Rattle.f77_store.specs.Blocks.{counted}
+use Rattle.f77_store.specs.Areas.{counted}
 use Rattle.f77_store.proofs.areas.all_sized.Given as goal
 
 abbrev pub invariant-loop-name : goal.invariant-loop-name

@@ -1,5 +1,5 @@
 use Rattle.std.proofs.Common.{◌≡◌, drop, fold, map}
-use Rattle.f77_store.specs.Names.{with_name, distinct}
+use Rattle.f77_values.specs.Tables.{with_name, distinct}
 use Rattle.f77_store.proofs.areas.block_names.Given as goal
 
 -- the names that are still to come make of those so far what is wanted

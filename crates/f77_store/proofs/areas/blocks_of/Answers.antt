@@ -1,4 +1,4 @@
-use Rattle.f77_store.proofs.Given.{if_ok}
+use Rattle.f77_values.proofs.Given.{if_ok}
 use Rattle.f77_store.proofs.Totals.{blocks_are}
 use Rattle.f77_store.proofs.areas.blocks_of.Goals as goal
 

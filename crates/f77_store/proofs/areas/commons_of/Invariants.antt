@@ -1,5 +1,5 @@
 use Rattle.std.proofs.Common.{◌≡◌, ◌++◌, drop, flat_map}
-use Rattle.f77_store.specs.Blocks.{member, commons}
+use Rattle.f77_store.specs.Areas.{member, commons}
 use Rattle.f77_store.proofs.areas.commons_of.Given as goal
 
 abbrev pub invariant-loop-declaration : goal.invariant-loop-declaration

@@ -1,5 +1,5 @@
 use Rattle.std.proofs.Common.{◌∙◌}
-use Rattle.f77_store.specs.Blocks.{size_of}
+use Rattle.f77_store.specs.Areas.{size_of}
 use Rattle.f77_store.proofs.Totals.{totals_more, places_more}
 use Rattle.f77_store.proofs.areas.lay_out.Goals as goal
 

@@ -1,6 +1,6 @@
 use Rattle.std.proofs.Common.{◌≡◌, drop, fold, take}
-use Rattle.f77_store.specs.Names.{with_pair}
-use Rattle.f77_store.specs.Blocks.{size_of, placed, places, AreTotals}
+use Rattle.f77_values.specs.Tables.{with_pair}
+use Rattle.f77_store.specs.Areas.{size_of, placed, places, AreTotals}
 use Rattle.f77_store.proofs.areas.lay_out.Given as goal
 
 -- the places that are still to come make of those so far what is wanted, and the totals are those of the members so far

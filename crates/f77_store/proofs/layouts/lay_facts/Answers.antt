@@ -1,7 +1,7 @@
 use Rattle.std.proofs.Common.{ap, ◌∙◌}
-use Rattle.f77_store.specs.Blocks.{commons}
+use Rattle.f77_store.specs.Areas.{commons}
 use Rattle.f77_store.specs.Layouts.{layout_with}
-use Rattle.f77_store.proofs.Given.{if_ok}
+use Rattle.f77_values.proofs.Given.{if_ok}
 use Rattle.f77_store.proofs.layouts.lay_facts.Goals as goal
 
 pub returns : goal.returns

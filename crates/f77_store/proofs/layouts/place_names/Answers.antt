@@ -1,5 +1,5 @@
 use Rattle.std.proofs.Common.{[], ap, flat_map, ◌∙◌}
-use Rattle.f77_store.specs.Blocks.{so_far}
+use Rattle.f77_store.specs.Areas.{so_far}
 use Rattle.f77_store.specs.Layouts.{slot_of}
 use Rattle.f77_store.proofs.layouts.place_names.Goals as goal
 

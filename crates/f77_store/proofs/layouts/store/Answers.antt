@@ -2,11 +2,11 @@ use Rattle.std.proofs.Common.{◌≡◌, ℕ, List, ap, ◌∙◌}
 use Rattle.f77_store.specs.declared.areas.Member.{Member}
 use Rattle.f77_store.specs.declared.areas.Place.{Place}
 use Rattle.f77_store.specs.declared.layouts.Stored.{Stored}
-use Rattle.f77_store.specs.declared.roles.Facts.{Facts}
-use Rattle.f77_store.specs.declared.roles.Known.{Known}
-use Rattle.f77_store.specs.Names.{Name, Told}
+use Rattle.f77_names.specs.declared.facts.Facts.{Facts}
+use Rattle.f77_names.specs.declared.roles.Known.{Known}
+use Rattle.f77_values.specs.Tables.{Name, Told}
 use Rattle.f77_store.specs.Layouts.{sizes, common_places, blocks_with, stored_in, stored}
-use Rattle.f77_store.proofs.Given.{if_ok}
+use Rattle.f77_values.proofs.Given.{if_ok}
 use Rattle.f77_store.proofs.layouts.store.Goals as goal
 
 stored_from : (f : Facts) (commons : List Member) (names : List Known) (places : Told Place) (blocks : List (Name × ℕ)) (all : Stored)

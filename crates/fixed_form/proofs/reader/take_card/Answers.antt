@@ -1,8 +1,8 @@
-use Rattle.std.proofs.Common.{ap, sym, ◌∙◌, arith, subst}
+use Rattle.std.proofs.Common.{⊎_elim, ap, sym, ◌∙◌, arith, subst}
 use Rattle.fixed_form.specs.declared.card.LineKind.TheVariants as kind
 use Rattle.fixed_form.specs.Cards.{card_strange}
 use Rattle.fixed_form.specs.Progress.{inside_current}
-use Rattle.fixed_form.proofs.Steps.{NoComment, no_comment, kind_here, stands_comment, stands_initial, stands_end, stands_continued, first_strange, first_label, first_lone, first_many, plain, outside_initial, outside_end}
+use Rattle.fixed_form.proofs.Steps.{NoComment, no_comment, kind_here, stands_comment, stands_initial, stands_end, stands_continued, first_strange, first_label, first_lone, first_many, initial_label, continuation_label, plain, outside_initial, outside_end}
 use Rattle.fixed_form.proofs.reader.take_card.Goals as goal
 
 pub returns-then-card_strange-clause-err : goal.returns-then-card_strange-clause-err
@@ -40,4 +40,5 @@ returns-in-None-clause-err c = λ seen rest line next s.
 
 pub returns-in-BadLabel-clause-err : goal.returns-in-BadLabel-clause-err
 returns-in-BadLabel-clause-err c = λ seen rest line next s.
-    first_label c.refusal-in-BadLabel.result c.args.number line rest c.refusal-in-BadLabel.ensures next.numbered (kind_here c.in_ok-kind.kind next (c.in_ok-kind.ensures {u = tt}) ∙ c.in-BadLabel.is) (plain line next.card_is c.card_strange.ensures c.if-card_strange.false (c.inside_at.ensures ∙ (ap (inside_current c.args.reader.current) c.in-BadLabel.is))) s
+    let k = c.in_ok-kind.kind in
+    first_label c.refusal-in-BadLabel.result c.args.number k line rest c.refusal-in-BadLabel.ensures next.numbered (⊎_elim initial_label continuation_label c.in-BadLabel.is) (kind_here k next (c.in_ok-kind.ensures {u = tt})) (plain line next.card_is c.card_strange.ensures c.if-card_strange.false c.inside_at.ensures) s

@@ -1,5 +1,5 @@
 use Rattle.std.proofs.Common.{◌≡◌, drop, fold}
-use Rattle.f77_store.specs.Names.{with_name}
+use Rattle.f77_values.specs.Tables.{with_name}
 use Rattle.interp_lower.specs.Cells.{in_items}
 use Rattle.interp_lower.proofs.kept.keep_items.Given as goal
 

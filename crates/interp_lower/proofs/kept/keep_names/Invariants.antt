@@ -1,5 +1,5 @@
 use Rattle.std.proofs.Common.{◌≡◌, drop, fold}
-use Rattle.f77_store.specs.Names.{with_name}
+use Rattle.f77_values.specs.Tables.{with_name}
 use Rattle.interp_lower.proofs.kept.keep_names.Given as goal
 
 abbrev pub invariant-loop-name : goal.invariant-loop-name

@@ -1,5 +1,5 @@
 use Rattle.std.proofs.Common.{◌≡◌, drop, fold}
-use Rattle.f77_store.specs.Names.{with_name, distinct}
+use Rattle.f77_values.specs.Tables.{with_name, distinct}
 use Rattle.interp_lower.specs.Cells.{names_kept}
 use Rattle.interp_lower.proofs.kept.kept_names.Given as goal
 

@@ -1,5 +1,5 @@
 use Rattle.std.proofs.Common.{◌≡◌, ◌++◌, drop, map, ◌||◌}
-use Rattle.f77_store.specs.Names.{is_among}
+use Rattle.f77_values.specs.Tables.{is_among}
 use Rattle.interp_lower.specs.Cells.{kept_of, kept_slots}
 use Rattle.interp_lower.proofs.kept.kept_slots.Given as goal
 

@@ -1,7 +1,7 @@
 use Rattle.std.proofs.Common.{◌+◌, get_or, length, subst, ap, ◌∙◌}
 use Rattle.f77_tree.specs.declared.form.Form.{out-Form}
 use Rattle.f77_tree.specs.declared.unit.Stmt.{Stmt}
-use Rattle.f77_store.specs.Occurrences.{in_statement}
+use Rattle.f77_names.specs.Occurrences.{in_statement}
 use Rattle.f77_store.specs.Layouts.{callees_with}
 use Rattle.f77_semantics.specs.Resolve.{statement_of}
 use Rattle.interp_lower.specs.Pieces.{meant}

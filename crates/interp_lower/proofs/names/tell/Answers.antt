@@ -1,6 +1,6 @@
 use Rattle.std.proofs.Common.{◌≡◌, sym, ◌∙◌, subst, Some, if◌then◌else◌}
 use Rattle.std.proofs.lemmas.Result.{on_ok_weaker}
-use Rattle.f77_store.specs.Names.{Name, name_eq, what}
+use Rattle.f77_values.specs.Tables.{Name, name_eq, what}
 use Rattle.interp_lower.proofs.Telling.{tells_more}
 use Rattle.interp_lower.proofs.names.tell.Goals as goal
 

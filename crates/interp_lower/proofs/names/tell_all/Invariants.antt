@@ -1,5 +1,5 @@
 use Rattle.std.proofs.Common.{◌≡◌, None, drop}
-use Rattle.f77_store.specs.Names.{Name, what}
+use Rattle.f77_values.specs.Tables.{Name, what}
 use Rattle.f77_semantics.specs.Source.{slot_named}
 use Rattle.interp_lower.specs.Meanings.{told_or}
 use Rattle.interp_lower.proofs.names.tell_all.Given as goal

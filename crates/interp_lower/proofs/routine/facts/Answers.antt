@@ -1,6 +1,6 @@
 use Rattle.std.proofs.Common.{ap, ◌∙◌}
 use Rattle.std.proofs.lemmas.Result.{IfOk-weaker}
-use Rattle.f77_store.specs.Roles.{facts_with}
+use Rattle.f77_names.specs.Roles.{facts_with}
 use Rattle.interp_lower.proofs.routine.facts.Goals as goal
 
 pub returns : goal.returns

@@ -3,7 +3,7 @@ use Rattle.std.proofs.lemmas.Int.{to_z-of_z}
 use Rattle.run_model.specs.Acts.{and_then, play}
 use Rattle.f77_tree.specs.declared.unit.Ty.TheVariants as ty
 use Rattle.f77_tree.specs.declared.unit.Value.TheVariants.{Integer}
-use Rattle.f77_store.specs.Arithmetic.{wrap}
+use Rattle.f77_values.specs.Arithmetic.{wrap}
 use Rattle.f77_semantics.specs.Expressions.{fetch, store}
 use Rattle.f77_semantics.specs.Statements.{as_number}
 use Rattle.interp_cells.specs.Spots.{loc_of}

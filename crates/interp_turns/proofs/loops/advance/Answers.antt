@@ -5,7 +5,7 @@ use Rattle.run_model.specs.Acts.{Act, Stop, Outcome, and_then, play}
 use Rattle.run_model.specs.Turns.{After}
 use Rattle.f77_tree.specs.declared.unit.Ty.TheVariants as ty
 use Rattle.f77_tree.specs.declared.unit.Value.TheVariants.{Integer}
-use Rattle.f77_store.specs.Arithmetic.{wrap}
+use Rattle.f77_values.specs.Arithmetic.{wrap}
 use Rattle.f77_semantics.specs.Expressions.{fetch, store, scalar}
 use Rattle.f77_semantics.specs.Statements as running
 use Rattle.f77_semantics.specs.Statements.{as_number, set_loop, tested}

@@ -2,7 +2,7 @@ use Rattle.std.proofs.Common.{◌+ℤ◌, ℤ, w64, to_z, of_z, SFits, rules, ap
 use Rattle.std.proofs.lemmas.Int.{to_z-of_z, SFits-int_wrap}
 use Rattle.run_model.specs.Acts.{play}
 use Rattle.f77_tree.specs.declared.unit.Value.TheVariants.{Integer}
-use Rattle.f77_store.specs.Arithmetic.{wrap}
+use Rattle.f77_values.specs.Arithmetic.{wrap}
 use Rattle.f77_semantics.specs.Expressions.{store}
 use Rattle.f77_semantics.specs.Statements.{as_number}
 use Rattle.interp_cells.specs.Spots.{loc_of}

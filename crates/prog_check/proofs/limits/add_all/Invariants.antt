@@ -1,5 +1,5 @@
 use Rattle.std.proofs.Common.{◌≡◌, ◌+◌, min, take, sum_by}
-use Rattle.f77_store.specs.Blocks as b
+use Rattle.f77_store.specs.Areas as b
 use Rattle.prog_check.specs.Limits as limits
 use Rattle.prog_check.proofs.limits.add_all.Given as goal
 

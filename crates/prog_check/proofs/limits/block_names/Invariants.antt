@@ -1,5 +1,5 @@
 use Rattle.std.proofs.Common.{◌≡◌, drop, fold, map}
-use Rattle.f77_store.specs.Names.{with_name, distinct}
+use Rattle.f77_values.specs.Tables.{with_name, distinct}
 use Rattle.prog_check.proofs.limits.block_names.Given as goal
 
 abbrev pub invariant-loop-block : goal.invariant-loop-block

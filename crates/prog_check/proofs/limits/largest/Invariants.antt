@@ -1,5 +1,5 @@
 use Rattle.std.proofs.Common.{◌≡◌, ℕ, List, take}
-use Rattle.f77_store.specs.Blocks as b
+use Rattle.f77_store.specs.Areas as b
 use Rattle.prog_check.specs.Limits as limits
 use Rattle.prog_check.proofs.limits.largest.Given as goal
 

@@ -1,5 +1,5 @@
 use Rattle.std.proofs.Common.{[], ◌∷◌, ◌++◌, ap, ◌∙◌}
-use Rattle.f77_store.specs.Names.{with_told}
+use Rattle.f77_values.specs.Tables.{with_told}
 use Rattle.prog_check.specs.Mentions.{mentions_with}
 use Rattle.prog_check.specs.Signatures.{signature_with}
 use Rattle.prog_check.proofs.Given.{on_ok, so_on_ok}

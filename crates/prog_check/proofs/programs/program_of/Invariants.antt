@@ -1,5 +1,5 @@
 use Rattle.std.proofs.Common.{◌≡◌, ◌++◌, drop, map, fold}
-use Rattle.f77_store.specs.Names.{with_pair}
+use Rattle.f77_values.specs.Tables.{with_pair}
 use Rattle.prog_check.specs.Mentions.{mentions}
 use Rattle.prog_check.specs.Signatures.{named_from, signatures}
 use Rattle.prog_check.proofs.programs.program_of.Given as goal

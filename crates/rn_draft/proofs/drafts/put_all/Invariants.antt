@@ -1,5 +1,5 @@
 use Rattle.std.proofs.Common.{◌≡◌, [], map, fold, reverse, length}
-use Rattle.f77_store.specs.Names.{with_pair}
+use Rattle.f77_values.specs.Tables.{with_pair}
 use Rattle.rn_draft.specs.Drafts.{named}
 use Rattle.rn_draft.proofs.drafts.put_all.Given as goal
 

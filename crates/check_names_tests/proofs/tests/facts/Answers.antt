@@ -1,8 +1,0 @@
-use Rattle.std.proofs.Common.{ap, ◌∙◌}
-use Rattle.f77_store.specs.Occurrences.{Occurrences}
-use Rattle.f77_store.specs.Roles.{facts_with}
-use Rattle.f77_store.proofs.Given.{if_ok}
-use Rattle.check_names_tests.proofs.tests.facts.Goals as goal
-
-pub returns : goal.returns
-returns c = if_ok c.facts_of.result (λ x e. e ∙ ap (λ (all : Occurrences). facts_with all c.args.unit.now) c.in_ok-all.ensures) c.facts_of.ensures

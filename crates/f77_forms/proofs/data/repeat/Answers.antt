@@ -1,5 +1,0 @@
-use Rattle.f77_forms.proofs.DataParts.{no_star_behind}
-use Rattle.f77_forms.proofs.data.repeat.Goals as goal
-
-pub returns-in_default-eat-clause-repeat : goal.returns-in_default-eat-clause-repeat
-returns-in_default-eat-clause-repeat c = no_star_behind (rw c.in-Some.is at (c.in_ok-times.ensures {u = tt}).times) (c.in_default-eat.ensures {u = tt}).next

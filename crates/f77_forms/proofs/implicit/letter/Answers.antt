@@ -1,5 +1,0 @@
-use Rattle.f77_forms.proofs.Depths.{deepest-tail}
-use Rattle.f77_forms.proofs.implicit.letter.Goals as goal
-
-pub returns-then-is_name-clause-shallow : goal.returns-then-is_name-clause-shallow
-returns-then-is_name-clause-shallow c = deepest-tail (c.in-Some-Word-default.ensures {u = tt}).cases.0 c.requires

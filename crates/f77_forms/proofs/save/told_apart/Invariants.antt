@@ -1,9 +1,0 @@
-use Rattle.std.proofs.Common.{◌≡◌, take, flat_map}
-use Rattle.f77_forms.specs.Specifications.{name_in, block_in}
-use Rattle.f77_forms.proofs.save.told_apart.Given as goal
-
-abbrev pub invariant-loop-saved : goal.invariant-loop-saved
-invariant-loop-saved l = record {
-  names : l.names ≡ flat_map name_in (take l.saved-index l.saved-items);
-  blocks : l.blocks ≡ flat_map block_in (take l.saved-index l.saved-items);
-}

@@ -1,8 +1,0 @@
-use Rattle.f77_forms.proofs.Answered.{sole_tokens, no_tokens}
-use Rattle.f77_forms.proofs.tokens_of.tokens_of.Goals as goal
-
-pub returns-in-Ok : goal.returns-in-Ok
-returns-in-Ok c = sole_tokens (c.in-Ok.ensures {u = tt}).tokens (c.in-Ok.ensures {u = tt}).depth
-
-pub returns-in-Err-Fault : goal.returns-in-Err-Fault
-returns-in-Err-Fault c = no_tokens (rw c.in-Err-Fault.field-0-is at (c.in-Err-Fault.ensures {u = tt}).fault)

@@ -1,0 +1,6 @@
+pub mod Occurrences
+pub mod Declarations
+pub mod Types
+pub mod Intrinsics
+pub mod Roles
+pub mod Standings

@@ -1,6 +1,0 @@
-use Rattle.std.proofs.Common.{rules}
-use Rattle.std.proofs.lemmas.Int.{wraps}
-use Rattle.f77_store.proofs.arithmetic.negate.Goals as goal
-
-pub returns-in-Integer : goal.returns-in-Integer
-returns-in-Integer c = search (rules, wraps)

@@ -1,6 +1,0 @@
-use Rattle.std.proofs.Common.{◌≡◌}
-use Rattle.f77_store.specs.Arithmetic.{power}
-use Rattle.f77_store.proofs.arithmetic.power.Given as goal
-
-abbrev pub invariant-loop-k : goal.invariant-loop-k
-invariant-loop-k l = l.power ≡ power l.x l.k

@@ -1,6 +1,0 @@
-use Rattle.std.proofs.Common.{◌≡◌, take}
-use Rattle.f77_store.specs.Constants.{constants}
-use Rattle.f77_store.proofs.constants.constants_of.Given as goal
-
-abbrev pub invariant-loop-statement : goal.invariant-loop-statement
-invariant-loop-statement l = l.constants ≡ constants (take l.statement-index l.statement-items)

@@ -1,8 +1,0 @@
-use Rattle.std.proofs.Common.{◌≡◌, drop, fold, flat_map}
-use Rattle.f77_store.specs.Names.{with_pair}
-use Rattle.f77_store.specs.Declarations.{word_told, words}
-use Rattle.f77_store.proofs.declarations.words_of.Given as goal
-
--- what is still to come makes of what is told so far what is wanted
-abbrev pub invariant-loop-declaration : goal.invariant-loop-declaration
-invariant-loop-declaration l = fold with_pair l.words (flat_map word_told (drop l.declaration-index l.declaration-items)) ≡ words l.declaration-items

@@ -1,6 +1,0 @@
-use Rattle.std.proofs.Common.{◌≡◌, ◌++◌, drop, flat_map}
-use Rattle.f77_store.specs.Occurrences.{in_definition}
-use Rattle.f77_store.proofs.occurrences.push_definitions.Given as goal
-
-abbrev pub invariant-loop-definition : goal.invariant-loop-definition
-invariant-loop-definition l = l.found ++ flat_map in_definition (drop l.definition-index l.definition-items) ≡ l.initial.found ++ flat_map in_definition l.definition-items

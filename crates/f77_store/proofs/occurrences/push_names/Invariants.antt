@@ -1,6 +1,0 @@
-use Rattle.std.proofs.Common.{◌≡◌, ◌++◌, drop, map}
-use Rattle.f77_store.specs.Occurrences.{occurs}
-use Rattle.f77_store.proofs.occurrences.push_names.Given as goal
-
-abbrev pub invariant-loop-name : goal.invariant-loop-name
-invariant-loop-name l = l.found ++ map (occurs l.manner) (drop l.name-index l.name-items) ≡ l.initial.found ++ map (occurs l.manner) l.name-items

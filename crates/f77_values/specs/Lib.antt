@@ -1,0 +1,4 @@
+pub mod Tables
+pub mod Arithmetic
+pub mod Constants
+pub mod Sizes

@@ -1,0 +1,4 @@
+pub mod Assignment
+pub mod Control
+pub mod InputOutput
+pub mod Transfer

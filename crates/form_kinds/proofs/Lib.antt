@@ -1,0 +1,4 @@
+pub mod Digits
+pub mod ForeignTexts
+pub mod KindTests
+pub mod Places

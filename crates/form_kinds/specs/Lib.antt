@@ -1,0 +1,4 @@
+pub mod Foreign
+pub mod Keywords
+pub mod Scans
+pub mod StatementKinds

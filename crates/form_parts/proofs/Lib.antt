@@ -1,0 +1,10 @@
+pub mod Answered
+pub mod Depths
+pub mod Elements
+pub mod Enclosed
+pub mod Entries
+pub mod Following
+pub mod Fronts
+pub mod Lists
+pub mod NextToken
+pub mod OneParts

@@ -1,0 +1,9 @@
+pub mod Blocks
+pub mod Bounds
+pub mod Constants
+pub mod DataParts
+pub mod Declaring
+pub mod Letters
+pub mod OneBounds
+pub mod OneForms
+pub mod SavedParts

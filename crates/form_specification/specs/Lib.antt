@@ -1,0 +1,3 @@
+pub mod DataForms
+pub mod Declarators
+pub mod Specifications
