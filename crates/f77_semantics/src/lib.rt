@@ -1,4 +1,39 @@
 //! The meaning of programs: what a run of a program does, step by step.
+//!
+//! For the interpreter, the code and the analyses. A reader goes through `specs/` in this order, beside sections 6,
+//! 10 to 12 and 15 of the standard:
+//!
+//! - `Values`: values of operators, and of intrinsic functions.
+//! - `Program`: `Routine`, a unit whose names, labels and sites are looked up: terms and statements.
+//! - `Expressions`: association, elements, values, actual arguments.
+//! - `Statements`: what one turn does, a clause for each statement.
+//! - `Units`: entries, a unit's run against what its calls do (`run_unit`), and a program's (`running`).
+//! - `Terms`, `Resolve`, `Data`, `Source`: the routine of a `Unit`: names by their roles and slots, sites in the
+//!   order of the callees' names, labels and ways by `f77_flow`, what SAVE and DATA keep and give; and `Source`.
+//!
+//! What a turn does is a tree of acts (`run_model`), written in `do` notation: a `Get` is a read, a `Put` a store,
+//! a `Say` a print, a `Take` an integer of the input, an `Ask` a call, and `Fail` ends the run. `Fail Stuck` is no
+//! end of any accepted program. A layer above may rely on these laws:
+//!
+//! - `joining_law`: a unit's run is its own with the callees' runs in the place of its calls. So what is shown of a
+//!   unit against every handler holds in every program.
+//! - `longer_runs_law`: Ended and Undefined stay with more steps, with status, step and cause, and the output only
+//!   grows.
+//! - `sane_law`: where each unit reads, writes and calls what its `Effects` say, with terms of their types
+//!   (`ProgramOk`), and each callee has a lower rank, no run is `Wrong`. That an accepted program is such is what
+//!   `sound_units` and `sound_texts` show.
+//! - `flow_law`: a turn of a unit's routine that goes on goes to a point of `follow`, where a DO that is tested has
+//!   a range. So what an analysis finds along the statement graph holds along runs.
+//! - `places_law`: in a unit that passed the checks of its labels, jumps and nesting (`f77_flow`'s `PassedChecks`)
+//!   a run begins at a place, and each turn goes from a place to a place: a statement with which a step may begin,
+//!   a logical IF, a DO with a range. `points_law`: at each place the routine has a turn, where each DO's variable
+//!   is a variable, and so it has one at its beginning and wherever the flow leads. That is what `ProgramOk` asks
+//!   of control.
+//! - `sites_law`: an expression has as many sites as callees stand in it, so that numbers of sites and the list of
+//!   callees keep step, where the names with the role of a function are those that are applied (`FunctionsAgree`).
+//!
+//! `proofs/Examples` and `Calls` have some fifty programs whose runs the checker computes at exact numbers of
+//! steps, and `Trees` what trees are looked up to.
 #![tactic(auto)]
 
 ghost use Rattle.std.specs.Prelude.{◌≡◌, ℕ, suc, ◌+◌, ◌<◌, List, ℤ, false, length, map, Some};

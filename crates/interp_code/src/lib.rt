@@ -1,4 +1,10 @@
 //! Expressions as steps on a stack of operands.
+//!
+//! A recursion over terms, each with calls inside it, would be one cycle of fourteen functions. So an expression
+//! becomes a list of operations that take operands from a stack and put one there, and a statement such a list and
+//! an ending. `code_law`, `statements_law` and `bounds_law` say that playing these is playing the expression, the
+//! statement and the bounds of a dummy array. Then only the run of a unit, its turns, its operations and its calls
+//! call each other.
 #![tactic(auto)]
 
 mod ending;
