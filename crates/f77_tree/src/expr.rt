@@ -27,6 +27,7 @@ pub enum Op {
 
 /// An expression, or an item of PRINT. A text has the bytes that are printed, each doubled apostrophe as one. A name
 /// with a list is an array element, a function or an intrinsic.
+#[derive(Drop)]
 pub enum Expr {
     Int(i64),
     Truth(bool),
@@ -38,29 +39,6 @@ pub enum Expr {
     Plus(Box<Expr>),
     Not(Box<Expr>),
     Binary(Op, Box<Expr>, Box<Expr>),
-}
-
-// Who drops an expression makes one call, and doesn't open its variants; each part is dropped by a call for the same
-// reason.
-impl Drop for Expr {
-    fn drop(self) {
-        match self {
-            Expr::Int(_) | Expr::Truth(_) => (),
-            Expr::Text(bytes) => drop(bytes),
-            Expr::Scalar(name) => drop(name),
-            Expr::Apply(name, list) => {
-                drop(name);
-                drop(list)
-            }
-            Expr::Paren(inner) | Expr::Neg(inner) | Expr::Plus(inner) | Expr::Not(inner) => {
-                drop(inner)
-            }
-            Expr::Binary(_, a, b) => {
-                drop(a);
-                drop(b)
-            }
-        }
-    }
 }
 
 impl Expr {
