@@ -114,8 +114,8 @@ fn other_kind(text: &[u8]) -> StatementKind
     }
 }
 
-/// The kind of a statement.
-pub fn statement_kind(text: &[u8]) -> StatementKind
+/// A kind of a statement.
+fn read_kind(text: &[u8]) -> StatementKind
     ensures { k.IsKind text.now result }
 {
     let Some(inside) = behind_word(text, b"IF(".as_slice()) else {
@@ -125,4 +125,12 @@ pub fn statement_kind(text: &[u8]) -> StatementKind
         Some((_, behind)) => kind_behind(behind),
         None => StatementKind::LogicalIf,
     }
+}
+
+/// The kind of a statement: each text has exactly one.
+pub fn statement_kind(text: &[u8]) -> StatementKind
+    ensures kind { k.IsKind text.now result }
+    ensures only { (other : StatementKind) → k.IsKind text.now other → other ≡ result }
+{
+    read_kind(text)
 }

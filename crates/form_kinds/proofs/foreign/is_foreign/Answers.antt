@@ -12,7 +12,7 @@ inside-preserved c = record {
 }
 
 pub returns-then-ne : goal.returns-then-ne
-returns-then-ne c = λ f. not_foreign (c.in_default.ensures {u = tt}) c.statement_kind.ensures (λ e. grind (arith, e)) (c.inside.invariant.no f)
+returns-then-ne c = λ f. not_foreign (c.in_default.ensures {u = tt}) c.statement_kind.ensures.kind (λ e. grind (arith, e)) (c.inside.invariant.no f)
 
 pub returns : goal.returns
-returns c = foreign_of c.is_foreign_text.result c.is_foreign_text.ensures (let worded : c.statement_kind.result ≡ kind.Worded = search rules in subst (IsKind c.inside.rest.now) worded c.statement_kind.ensures) (c.in_default.ensures {u = tt}) c.inside.invariant.yes c.inside.invariant.no
+returns c = foreign_of c.is_foreign_text.result c.is_foreign_text.ensures (let worded : c.statement_kind.result ≡ kind.Worded = search rules in subst (IsKind c.inside.rest.now) worded c.statement_kind.ensures.kind) (c.in_default.ensures {u = tt}) c.inside.invariant.yes c.inside.invariant.no
