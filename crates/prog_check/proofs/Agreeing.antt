@@ -22,9 +22,9 @@ use Rattle.f77_values.specs.Tables.{Name, is_among}
 use Rattle.f77_names.specs.Occurrences.{Occurrences, occurs, declared_manner, own_name}
 use Rattle.f77_names.specs.Occurrences as names
 use Rattle.f77_names.specs.Roles.{facts, is_function, type_of}
-use Rattle.prog_check.specs.declared.mentions.Mention.{Mention}
-use Rattle.prog_check.specs.declared.mentions.Wanted.TheVariants.{Function}
-use Rattle.prog_check.specs.Mentions.{Seen, seen_step, expr_says, site, site_of, dummy_procedure, is_dummy_procedure, reference, call, form_step, in_expr, in_optional, in_bound, in_declarator, in_block, in_definition, in_external, in_constant, in_run, in_form, in_statement, mentions_with}
+use Rattle.prog_texts.specs.declared.mentions.Mention.{Mention}
+use Rattle.prog_texts.specs.declared.mentions.Wanted.TheVariants.{Function}
+use Rattle.prog_texts.specs.Mentions.{Seen, seen_step, expr_says, site, site_of, dummy_procedure, is_dummy_procedure, reference, call, form_step, in_expr, in_optional, in_bound, in_declarator, in_block, in_definition, in_external, in_constant, in_run, in_form, in_statement, mentions_with}
 use Rattle.prog_check.specs.Sites.{callee_of, SitesAreCallees}
 
 map-append : {A B : Type 0} (f : A → B) (xs ys : List A) → map f (xs ++ ys) ≡ map f xs ++ map f ys

@@ -6,13 +6,13 @@ use Rattle.std.specs.List.{slice_get, list_any}
 use Rattle.std.proofs.lemmas.Bool.Decides.{nat_tests}
 use Rattle.std.proofs.lemmas.List.Sums.{sum_by-cons}
 use Rattle.f77_tree.specs.declared.unit.Unit.{Unit as SourceUnit}
-use Rattle.prog_check.specs.declared.marks.ProgramMark.{ProgramMark}
+use Rattle.call_cycles.specs.declared.marks.ProgramMark.{ProgramMark}
 use Rattle.prog_check.specs.Mains.{is_main, has_main, IsLaterMain, LacksMain}
 use Rattle.prog_check.specs.Limits.{Passes}
-use Rattle.prog_check.specs.Marks.{comes_first, IsFirst, Earliest}
+use Rattle.call_cycles.specs.Marks.{comes_first, IsFirst, Earliest}
 use Rattle.prog_check.specs.Scans.{later_main, passing}
-use Rattle.prog_check.specs.Shown.{mark_at}
-use Rattle.prog_check.proofs.Firsts.{earlier_unit, earlier_line, mapped, nowhere_first}
+use Rattle.call_cycles.specs.Marks.{mark_at}
+use Rattle.call_cycles.proofs.Firsts.{earlier_unit, earlier_line, mapped, nowhere_first}
 
 some_is : {A : Type 0} (x y : A) → Some x ≡ Some y → x ≡ y
 some_is x y e = cc

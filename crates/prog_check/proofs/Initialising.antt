@@ -7,11 +7,11 @@ use Rattle.f77_tree.specs.declared.unit.Unit.{Unit as SourceUnit}
 use Rattle.check_common.specs.declared.again.Again.{Again}
 use Rattle.check_common.specs.Again.{IsAgain, IsFirstAgain, FirstAgain}
 use Rattle.check_common.specs.Initials.{initials}
-use Rattle.prog_check.specs.declared.marks.ProgramMark.{ProgramMark}
+use Rattle.call_cycles.specs.declared.marks.ProgramMark.{ProgramMark}
 use Rattle.prog_check.specs.Initialised.{mark_of, IsInitialisedAgain}
-use Rattle.prog_check.specs.Marks.{comes_first, Earliest}
-use Rattle.prog_check.specs.Shown.{mark_at}
-use Rattle.prog_check.proofs.Firsts.{earlier_unit, earlier_line}
+use Rattle.call_cycles.specs.Marks.{comes_first, Earliest}
+use Rattle.call_cycles.specs.Marks.{mark_at}
+use Rattle.call_cycles.proofs.Firsts.{earlier_unit, earlier_line}
 
 module _ (units : List SourceUnit) where
   -- of two, by unit and then by line

@@ -1,8 +1,4 @@
-pub mod Said
-pub mod Named
 pub mod Pairs
-pub mod Given
-pub mod Firsts
 pub mod Scanning
 pub mod Counting
 pub mod Stepping
@@ -10,9 +6,5 @@ pub mod Telling
 pub mod Storage
 pub mod Limiting
 pub mod Initialising
-pub mod Reaching
-pub mod Turning
-pub mod Ranking
-pub mod Cycling
 pub mod Agreeing
 pub mod Verdicts

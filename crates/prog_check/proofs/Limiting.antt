@@ -3,13 +3,13 @@ use Rattle.std.proofs.Common.{◌≡◌, List, Some, None, refl, sym, subst, ◌
 use Rattle.std.specs.declared.option.Option.{Option}
 use Rattle.f77_tree.specs.declared.unit.Unit.{Unit as SourceUnit}
 use Rattle.prog_check.specs.declared.limits.Measure.TheVariants.{Tokens, Weight}
-use Rattle.prog_check.specs.declared.marks.ProgramMark.{ProgramMark}
+use Rattle.call_cycles.specs.declared.marks.ProgramMark.{ProgramMark}
 use Rattle.prog_check.specs.Limits.{HasManyUnits, Passes, HasMuchStorage, measured, limit_of, most_tokens, most_weight}
-use Rattle.prog_check.specs.Marks.{Earliest, first_of}
+use Rattle.call_cycles.specs.Marks.{Earliest, first_of}
 use Rattle.prog_check.specs.ProgramFaults as p
 use Rattle.prog_check.specs.ProgramFaults.{LimitFaults}
 use Rattle.prog_check.specs.Scans.{passing}
-use Rattle.prog_check.proofs.Firsts.{mapped, either}
+use Rattle.call_cycles.proofs.Firsts.{mapped, either}
 use Rattle.prog_check.proofs.Counting.{passing_found}
 
 module _ (units : List SourceUnit) where

@@ -6,18 +6,19 @@ use Rattle.std.specs.List.{slice_get, list_any}
 use Rattle.std.proofs.lemmas.Bool.Decides.{nat_tests}
 use Rattle.std.proofs.lemmas.List.Sums.{sum_by-cons}
 use Rattle.f77_tree.specs.declared.unit.Unit.{Unit as SourceUnit}
-use Rattle.prog_check.specs.declared.marks.ProgramMark.{ProgramMark}
-use Rattle.prog_check.specs.declared.mentions.Mention.{Mention}
+use Rattle.call_cycles.specs.declared.marks.ProgramMark.{ProgramMark}
+use Rattle.prog_texts.specs.declared.mentions.Mention.{Mention}
 use Rattle.prog_check.specs.declared.checks.Check.{Check}
 use Rattle.prog_check.specs.Checks.{shows, line_of, number_of}
 use Rattle.prog_check.specs.Mains.{is_main, has_main, IsLaterMain}
 use Rattle.prog_check.specs.Limits.{Passes}
-use Rattle.prog_check.specs.Marks.{comes_first, IsFirst, Earliest}
-use Rattle.prog_check.specs.Mentions.{mentions}
+use Rattle.call_cycles.specs.Marks.{comes_first, IsFirst, Earliest}
+use Rattle.prog_texts.specs.Mentions.{mentions}
 use Rattle.prog_check.specs.Scans.{sooner, with_mention, earliest_line, mark_or, first_text, later_main, passing}
-use Rattle.prog_check.specs.Shown.{mark_at, TextShows}
-use Rattle.prog_check.specs.Signatures.{Signatures, signatures}
-use Rattle.prog_check.proofs.Firsts.{earlier_unit, earlier_line, mapped}
+use Rattle.call_cycles.specs.Marks.{mark_at}
+use Rattle.prog_check.specs.Shown.{TextShows}
+use Rattle.prog_texts.specs.Signatures.{Signatures, signatures}
+use Rattle.call_cycles.proofs.Firsts.{earlier_unit, earlier_line, mapped}
 
 less : (x y : ℕ) → (x ≤ y) ⊎ (y < x)
 less zero y = inl (omega arith)

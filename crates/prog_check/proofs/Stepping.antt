@@ -3,13 +3,13 @@ use Rattle.std.proofs.Common.{◌≡◌, ℕ, suc, ◌+◌, ◌<◌, List, [], �
 use Rattle.std.specs.declared.option.Option.{Option}
 use Rattle.std.proofs.lemmas.List.{drop_more}
 use Rattle.f77_tree.specs.declared.unit.Unit.{Unit as SourceUnit}
-use Rattle.prog_check.specs.declared.marks.ProgramMark.{ProgramMark}
-use Rattle.prog_check.specs.declared.mentions.Mention.{Mention}
+use Rattle.call_cycles.specs.declared.marks.ProgramMark.{ProgramMark}
+use Rattle.prog_texts.specs.declared.mentions.Mention.{Mention}
 use Rattle.prog_check.specs.declared.checks.Check.{Check}
 use Rattle.prog_check.specs.Mains.{is_main}
 use Rattle.prog_check.specs.Scans.{earliest_line, mark_or, first_text, later_main}
-use Rattle.prog_check.specs.Shown.{mark_at}
-use Rattle.prog_check.specs.Signatures.{Signatures}
+use Rattle.call_cycles.specs.Marks.{mark_at}
+use Rattle.prog_texts.specs.Signatures.{Signatures}
 
 pub text_more : (c : Check) (all : Signatures) (texts : List (List Mention)) (i : ℕ) (text : List Mention) (found : Option ℕ) → i < length texts → text ≡ get_or texts i text → found ≡ earliest_line c all text
     → first_text c all i (drop i texts) ≡ mark_or c i found (first_text c all (i + 1) (drop (i + 1) texts))

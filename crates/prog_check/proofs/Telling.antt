@@ -2,19 +2,19 @@
 use Rattle.std.proofs.Common.{◌≡◌, ℕ, List, [], map, false, Some, None, refl, sym, subst, ap, ◌∙◌, ◌⊎◌, inl, inr}
 use Rattle.std.specs.declared.option.Option.{Option}
 use Rattle.f77_tree.specs.declared.unit.Unit.{Unit as SourceUnit}
-use Rattle.prog_check.specs.declared.marks.ProgramMark.{ProgramMark}
-use Rattle.prog_check.specs.declared.mentions.Mention.{Mention}
+use Rattle.call_cycles.specs.declared.marks.ProgramMark.{ProgramMark}
+use Rattle.prog_texts.specs.declared.mentions.Mention.{Mention}
 use Rattle.prog_check.specs.declared.checks.Check.{Check}
 use Rattle.prog_check.specs.declared.checks.Check.TheVariants.{BlockName, Callee, Count, Actual, Kind, Procedure}
 use Rattle.prog_check.specs.Mains.{LacksMain, IsLaterMain}
-use Rattle.prog_check.specs.Marks.{Earliest, first_of}
-use Rattle.prog_check.specs.Mentions.{mentions}
+use Rattle.call_cycles.specs.Marks.{Earliest, first_of}
+use Rattle.prog_texts.specs.Mentions.{mentions}
 use Rattle.prog_check.specs.ProgramFaults as p
 use Rattle.prog_check.specs.ProgramFaults.{MainFaults, TextFaults}
 use Rattle.prog_check.specs.Scans.{first_text, any_text, later_main}
 use Rattle.prog_check.specs.Shown.{TextShows}
-use Rattle.prog_check.specs.Signatures.{Signatures, signatures}
-use Rattle.prog_check.proofs.Firsts.{mapped, either}
+use Rattle.prog_texts.specs.Signatures.{Signatures, signatures}
+use Rattle.call_cycles.proofs.Firsts.{mapped, either}
 use Rattle.prog_check.proofs.Scanning.{text_found}
 use Rattle.prog_check.proofs.Counting.{later_found}
 

@@ -2,13 +2,13 @@
 use Rattle.std.proofs.Common.{◌≡◌, List, Some, None, sym, subst, ◌⊎◌, inl, inr}
 use Rattle.std.specs.declared.option.Option.{Option}
 use Rattle.f77_tree.specs.declared.unit.Unit.{Unit as SourceUnit}
-use Rattle.prog_check.specs.declared.marks.ProgramMark.{ProgramMark}
-use Rattle.prog_check.specs.Cycles.{HasCycle}
+use Rattle.call_cycles.specs.declared.marks.ProgramMark.{ProgramMark}
+use Rattle.call_cycles.specs.Cycles.{HasCycle}
 use Rattle.prog_check.specs.Initialised.{IsInitialisedAgain}
-use Rattle.prog_check.specs.Marks.{Earliest, first_of}
+use Rattle.call_cycles.specs.Marks.{Earliest, first_of}
 use Rattle.prog_check.specs.ProgramFaults as p
 use Rattle.prog_check.specs.ProgramFaults.{MainFaults, TextFaults, LimitFaults, CallFaults, ProgramShows}
-use Rattle.prog_check.proofs.Firsts.{mapped, either}
+use Rattle.call_cycles.proofs.Firsts.{mapped, either}
 
 module _ (units : List SourceUnit) where
   call_to : (m : ProgramMark) → TextFaults units m ⊎ HasCycle units m → CallFaults units m

@@ -5,19 +5,19 @@ use Rattle.f77_tree.specs.declared.unit.Ty.{Ty}
 use Rattle.f77_tree.specs.declared.unit.Ty.TheVariants.{Integer, Logical}
 use Rattle.f77_tree.specs.declared.unit.UnitKind.{UnitKind}
 use Rattle.f77_tree.specs.declared.unit.UnitKind.TheVariants as kind
-use Rattle.prog_check.specs.declared.mentions.Wanted.{Wanted}
-use Rattle.prog_check.specs.declared.mentions.Wanted.TheVariants.{Subroutine, Function}
-use Rattle.prog_check.specs.declared.mentions.Actual.{Actual}
-use Rattle.prog_check.specs.declared.mentions.Site.{Site as CallSite}
-use Rattle.prog_check.specs.declared.mentions.Mention.{Mention}
-use Rattle.prog_check.specs.declared.mentions.Mention.TheVariants.{Site, Block, DummyProcedure}
-use Rattle.prog_check.specs.declared.signatures.Dummy.{Dummy}
-use Rattle.prog_check.specs.declared.signatures.Shape.{Shape}
-use Rattle.prog_check.specs.declared.signatures.Shape.TheVariants as shape
-use Rattle.prog_check.specs.declared.signatures.Signature.{Signature}
+use Rattle.prog_texts.specs.declared.mentions.Wanted.{Wanted}
+use Rattle.prog_texts.specs.declared.mentions.Wanted.TheVariants.{Subroutine, Function}
+use Rattle.prog_texts.specs.declared.mentions.Actual.{Actual}
+use Rattle.prog_texts.specs.declared.mentions.Site.{Site as CallSite}
+use Rattle.prog_texts.specs.declared.mentions.Mention.{Mention}
+use Rattle.prog_texts.specs.declared.mentions.Mention.TheVariants.{Site, Block, DummyProcedure}
+use Rattle.prog_texts.specs.declared.signatures.Dummy.{Dummy}
+use Rattle.prog_texts.specs.declared.signatures.Shape.{Shape}
+use Rattle.prog_texts.specs.declared.signatures.Shape.TheVariants as shape
+use Rattle.prog_texts.specs.declared.signatures.Signature.{Signature}
 use Rattle.prog_check.specs.declared.checks.Check.{Check}
 use Rattle.prog_check.specs.declared.checks.Check.TheVariants as check
-use Rattle.prog_check.specs.Signatures.{Signatures, unit_of}
+use Rattle.prog_texts.specs.Signatures.{Signatures, unit_of}
 
 -- ---- types
 

@@ -4,8 +4,8 @@ use Rattle.f77_tree.specs.declared.unit.Unit.{Unit}
 use Rattle.check_common.specs.declared.again.Again.{Again}
 use Rattle.check_common.specs.Again.{IsAgain}
 use Rattle.check_common.specs.Initials.{initials}
-use Rattle.prog_check.specs.declared.marks.ProgramMark.{ProgramMark}
-use Rattle.prog_check.specs.Shown.{mark_at}
+use Rattle.call_cycles.specs.declared.marks.ProgramMark.{ProgramMark}
+use Rattle.call_cycles.specs.Marks.{mark_at}
 
 abbrev pub mark_of : Again → ProgramMark
 mark_of again = mark_at 36 0 (Some again.place) again.line

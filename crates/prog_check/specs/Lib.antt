@@ -1,13 +1,8 @@
-pub mod Marks
-pub mod Mentions
-pub mod Signatures
 pub mod Checks
 pub mod Shown
 pub mod Mains
 pub mod Limits
-pub mod Cycles
 pub mod Initialised
 pub mod Scans
 pub mod ProgramFaults
-pub mod Searching
 pub mod Sites

@@ -4,10 +4,10 @@ use Rattle.f77_tree.specs.declared.unit.Unit.{Unit}
 use Rattle.f77_tree.specs.Weight.{unit_weight}
 use Rattle.f77_values.specs.Tables.{Name, name_eq, distinct}
 use Rattle.f77_store.specs.Layouts.{blocks, local_size}
-use Rattle.prog_check.specs.declared.marks.ProgramMark.{ProgramMark}
+use Rattle.call_cycles.specs.declared.marks.ProgramMark.{ProgramMark}
 use Rattle.prog_check.specs.declared.limits.Measure.{Measure}
 use Rattle.prog_check.specs.declared.limits.Measure.TheVariants.{Tokens, Weight}
-use Rattle.prog_check.specs.Shown.{mark_at}
+use Rattle.call_cycles.specs.Marks.{mark_at}
 
 abbrev pub most_units : ℕ
 most_units = 2000

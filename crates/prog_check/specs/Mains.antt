@@ -4,8 +4,8 @@ use Rattle.std.specs.List.{slice_get, list_any}
 use Rattle.f77_tree.specs.declared.unit.Unit.{Unit}
 use Rattle.f77_tree.specs.declared.unit.UnitKind.{UnitKind}
 use Rattle.f77_tree.specs.declared.unit.UnitKind.TheVariants.{Main}
-use Rattle.prog_check.specs.declared.marks.ProgramMark.{ProgramMark}
-use Rattle.prog_check.specs.Shown.{mark_at}
+use Rattle.call_cycles.specs.declared.marks.ProgramMark.{ProgramMark}
+use Rattle.call_cycles.specs.Marks.{mark_at}
 
 abbrev pub is_main_kind : UnitKind → Bool
 is_main_kind Main = true

@@ -6,14 +6,14 @@ use Rattle.f77_values.specs.Tables.{Name}
 use Rattle.f77_tree.specs.declared.fault.SourceFault.{SourceFault}
 use Rattle.f77_tree.specs.declared.fault.Refused.{Refused}
 use Rattle.f77_tree.specs.declared.fault.Refused.TheVariants.{Fault, OutOfMemory}
-use Rattle.prog_check.specs.declared.marks.ProgramMark.{ProgramMark}
+use Rattle.call_cycles.specs.declared.marks.ProgramMark.{ProgramMark}
 use Rattle.prog_check.specs.declared.checks.Check.{Check}
-use Rattle.prog_check.specs.Marks.{IsFirst}
+use Rattle.call_cycles.specs.Marks.{IsFirst}
 use Rattle.prog_check.specs.Shown.{TextShows}
 use Rattle.prog_check.specs.Mains.{LacksMain, IsLaterMain}
 use Rattle.prog_check.specs.Limits.{HasManyUnits, Passes, HasMuchStorage, measured, most_tokens, most_weight}
 use Rattle.prog_check.specs.declared.limits.Measure.TheVariants.{Tokens, Weight}
-use Rattle.prog_check.specs.Cycles.{HasCycle}
+use Rattle.call_cycles.specs.Cycles.{HasCycle}
 use Rattle.prog_check.specs.Initialised.{IsInitialisedAgain}
 
 -- a main program that lacks, or is there twice

@@ -1,15 +1,15 @@
 -- The first fault of a kind, unit by unit.
 use Rattle.std.specs.Prelude.{ℕ, suc, ◌+◌, min, nat_lt, List, [], ◌∷◌, Option, Some, None, Bool, true, false, fold, if◌then◌else◌}
 use Rattle.f77_tree.specs.declared.unit.Unit.{Unit}
-use Rattle.prog_check.specs.declared.marks.ProgramMark.{ProgramMark}
-use Rattle.prog_check.specs.declared.mentions.Mention.{Mention}
+use Rattle.call_cycles.specs.declared.marks.ProgramMark.{ProgramMark}
+use Rattle.prog_texts.specs.declared.mentions.Mention.{Mention}
 use Rattle.prog_check.specs.declared.checks.Check.{Check}
 use Rattle.prog_check.specs.declared.checks.Check.TheVariants.{BlockName, Callee, Count, Actual, Kind, Procedure}
 use Rattle.prog_check.specs.Checks.{shows, line_of, number_of}
 use Rattle.prog_check.specs.Mains.{is_main}
-use Rattle.prog_check.specs.Marks.{first_of}
-use Rattle.prog_check.specs.Shown.{mark_at}
-use Rattle.prog_check.specs.Signatures.{Signatures}
+use Rattle.call_cycles.specs.Marks.{first_of}
+use Rattle.call_cycles.specs.Marks.{mark_at}
+use Rattle.prog_texts.specs.Signatures.{Signatures}
 
 -- ---- texts
 

@@ -1,16 +1,14 @@
 -- A fault that the text of a unit shows against the other units.
-use Rattle.std.specs.Prelude.{◌≡◌, ℕ, true, List, Option, Some}
+use Rattle.std.specs.Prelude.{◌≡◌, ℕ, true, List, Some}
 use Rattle.std.specs.List.{slice_get}
 use Rattle.f77_tree.specs.declared.unit.Unit.{Unit}
-use Rattle.prog_check.specs.declared.marks.ProgramMark.{ProgramMark}
-use Rattle.prog_check.specs.declared.mentions.Mention.{Mention}
+use Rattle.call_cycles.specs.declared.marks.ProgramMark.{ProgramMark}
+use Rattle.call_cycles.specs.Marks.{mark_at}
+use Rattle.prog_texts.specs.declared.mentions.Mention.{Mention}
 use Rattle.prog_check.specs.declared.checks.Check.{Check}
-use Rattle.prog_check.specs.Mentions.{mentions}
-use Rattle.prog_check.specs.Signatures.{signatures}
+use Rattle.prog_texts.specs.Mentions.{mentions}
+use Rattle.prog_texts.specs.Signatures.{signatures}
 use Rattle.prog_check.specs.Checks.{shows, line_of, number_of}
-
-abbrev pub mark_at : ℕ → ℕ → Option ℕ → ℕ → ProgramMark
-mark_at number limit unit line = record { number = number; limit = limit; unit = unit; line = line }
 
 -- Something that a unit's text says shows the fault, at the line of its statement.
 pub record TextShows (units : List Unit) (c : Check) (mark : ProgramMark) : Type 0 where

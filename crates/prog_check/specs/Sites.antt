@@ -3,8 +3,8 @@ use Rattle.std.specs.Prelude.{◌≡◌, map}
 use Rattle.f77_tree.specs.declared.unit.Unit.{Unit}
 use Rattle.f77_values.specs.Tables.{Name}
 use Rattle.f77_store.specs.Layouts.{callees}
-use Rattle.prog_check.specs.declared.mentions.Site.{Site}
-use Rattle.prog_check.specs.Mentions.{sites}
+use Rattle.prog_texts.specs.declared.mentions.Site.{Site}
+use Rattle.prog_texts.specs.Mentions.{sites}
 
 abbrev pub callee_of : Site → Name
 callee_of s = s.callee

@@ -2,12 +2,11 @@
 ghost use Rattle.std.specs.Prelude.{◌≡◌, not, is_some, None, Some};
 ghost use Rattle.std.specs.Option.{option_copied};
 ghost use Rattle.prog_check.specs.Checks as c;
-ghost use Rattle.prog_check.specs.Signatures as s;
+ghost use Rattle.prog_texts.specs.Signatures as s;
 
-use super::mentions::{Actual, Mention, Site, Wanted};
-use super::signatures::{Dummy, Shape, Signature};
 use f77_tree::{List, Name, Ty, UnitKind};
 use f77_values::Table;
+use prog_texts::{Actual, Dummy, Mention, Shape, Signature, Site, Wanted};
 
 /// Which fault is looked for.
 #[derive(Clone, Copy, Debug, Drop, PartialEq, Eq)]

@@ -2,10 +2,9 @@
 ghost use Rattle.std.specs.Prelude.{◌≡◌, IfOk};
 ghost use Rattle.std.specs.Option.{option_map};
 ghost use Rattle.prog_check.specs.Initialised as n;
-ghost use Rattle.prog_check.specs.Marks as k;
+ghost use Rattle.call_cycles.specs.Marks as k;
 
-use super::marks::ProgramMark;
-use super::scans::mark_at;
+use call_cycles::{ProgramMark, mark_at};
 use check_common::{Again, initialised_again};
 use f77_tree::Unit;
 use std::alloc::{AllocError, Global};

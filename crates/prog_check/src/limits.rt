@@ -4,12 +4,11 @@ ghost use Rattle.f77_store.specs.Areas as b;
 ghost use Rattle.f77_store.specs.Layouts as y;
 ghost use Rattle.f77_values.specs.Tables as n;
 ghost use Rattle.prog_check.specs.Limits as l;
-ghost use Rattle.prog_check.specs.Marks as k;
+ghost use Rattle.call_cycles.specs.Marks as k;
 ghost use Rattle.prog_check.specs.ProgramFaults as p;
 ghost use Rattle.prog_check.specs.Scans as s;
 
-use super::marks::{ProgramMark, first_of};
-use super::scans::mark_at;
+use call_cycles::{ProgramMark, first_of, mark_at};
 use f77_store::{layout, so_far};
 use f77_tree::{List, Name, Unit, weight};
 use f77_values::{Names, Table};
@@ -70,7 +69,7 @@ struct Declared {
     blocks: List<(Name, u32)>,
 }
 
-#[tactic(auto, using(crate::proofs::Said::joined))]
+#[tactic(auto, using(prog_texts::proofs::Said::joined))]
 fn push_blocks(
     alloc: Global,
     all: &mut List<(Name, u32)>,

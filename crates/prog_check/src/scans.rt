@@ -2,32 +2,17 @@
 ghost use Rattle.std.specs.Prelude.{◌≡◌, map, false, List as Lists};
 ghost use Rattle.f77_tree.specs.declared.unit.Unit.{Unit as AnyUnit};
 ghost use Rattle.prog_check.specs.Mains as a;
-ghost use Rattle.prog_check.specs.Marks as k;
-ghost use Rattle.prog_check.specs.Mentions as m;
+ghost use Rattle.call_cycles.specs.Marks as k;
+ghost use Rattle.prog_texts.specs.Mentions as m;
 ghost use Rattle.prog_check.specs.ProgramFaults as p;
 ghost use Rattle.prog_check.specs.Scans as s;
-ghost use Rattle.prog_check.specs.Shown as w;
-ghost use Rattle.prog_check.specs.Signatures as g;
+ghost use Rattle.prog_texts.specs.Signatures as g;
 
 use super::checks::{Check, line_of, number_of, shows};
-use super::marks::{ProgramMark, first_of};
-use super::mentions::Mention;
-use super::programs::Program;
-use super::signatures::Signature;
+use call_cycles::{ProgramMark, first_of, mark_at};
 use f77_tree::{List, Unit, UnitKind};
 use f77_values::Table;
-
-/// A fault by its number, its limit, the place of its unit and its line.
-pub fn mark_at(number: u8, limit: u64, unit: Option<usize>, line: u32) -> ProgramMark
-    ensures { result ≡ w.mark_at number limit unit line }
-{
-    ProgramMark {
-        number,
-        limit,
-        unit,
-        line,
-    }
-}
+use prog_texts::{Mention, Program, Signature};
 
 fn sooner(best: Option<u32>, line: u32) -> Option<u32>
     ensures { result ≡ s.sooner best line }

@@ -1,15 +1,14 @@
 //! The first fault of a program, from those of each kind.
 ghost use Rattle.std.specs.Prelude.{◌≡◌, ⊤, IfOk, IfErr};
-ghost use Rattle.prog_check.specs.Marks as k;
+ghost use Rattle.call_cycles.specs.Marks as k;
 ghost use Rattle.prog_check.specs.ProgramFaults as p;
 
-use super::cycles::cycle_fault;
 use super::initialised::initial_fault;
 use super::limits::limit_fault;
-use super::marks::{ProgramMark, first_of};
-use super::programs::program_of;
 use super::scans::{main_fault, text_fault};
+use call_cycles::{ProgramMark, cycle_fault, first_of};
 use f77_tree::{Name, Place, Refused, SourceFault, Unit};
+use prog_texts::program_of;
 use std::alloc::{AllocError, Global};
 
 fn call_fault(alloc: Global, units: &[Unit]) -> Result<Option<ProgramMark>, AllocError>

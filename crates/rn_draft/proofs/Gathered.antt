@@ -13,7 +13,7 @@ use Rattle.f77_parse.specs.Statements.{EndsUnit}
 use Rattle.f77_parse.specs.UnitFaults as text
 use Rattle.f77_check.specs.UnitFaults as checked
 use Rattle.prog_check.specs.ProgramFaults as program
-use Rattle.prog_check.specs.Shown.{mark_at}
+use Rattle.call_cycles.specs.Marks.{mark_at}
 use Rattle.rn_draft.specs.Accepted.{IsAccepted, Accepted, Explains, of_text, of_tree, of_unit, of_program}
 use Rattle.rn_draft.specs.Gathering.{HasFewTokens, ExplainsUnit, ExplainsAmong}
 

@@ -1,11 +1,11 @@
 -- Where no mark tells of a first cycle, no unit leads back to itself.
 use Rattle.std.proofs.Common.{◌≡◌, ℕ, zero, suc, ◌<◌, Some, List, [], ◌∷◌, map, slice_get, refl, ap, ◌∙◌, arith}
 use Rattle.f77_tree.specs.declared.unit.Unit.{Unit as SourceUnit}
-use Rattle.prog_check.specs.declared.marks.ProgramMark.{ProgramMark}
-use Rattle.prog_check.specs.Cycles.{LeadsBack, IsFirstCycle, HasCycle, edge, rows}
-use Rattle.prog_check.specs.Mentions.{sites}
-use Rattle.prog_check.specs.Shown.{mark_at}
-use Rattle.prog_check.specs.Signatures.{signatures}
+use Rattle.call_cycles.specs.declared.marks.ProgramMark.{ProgramMark}
+use Rattle.call_cycles.specs.Cycles.{LeadsBack, IsFirstCycle, HasCycle, edge, rows}
+use Rattle.prog_texts.specs.Mentions.{sites}
+use Rattle.call_cycles.specs.Marks.{mark_at}
+use Rattle.prog_texts.specs.Signatures.{signatures}
 
 -- ---- what an entry of a mapped list was made of
 

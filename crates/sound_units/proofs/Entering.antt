@@ -42,8 +42,8 @@ use Rattle.f77_semantics.specs.Effects.{Effects, TermOk, StepOk, BoundOk, Bounds
 use Rattle.f77_semantics.specs.Source.{bound_of, dummy_array, dummy_arrays_from, routine}
 use Rattle.f77_semantics.proofs.Trees.{layer}
 use Rattle.f77_check.specs.UnitFaults.{IsSound}
-use Rattle.prog_check.specs.declared.mentions.Mention.{Mention}
-use Rattle.prog_check.specs.Mentions as said
+use Rattle.prog_texts.specs.declared.mentions.Mention.{Mention}
+use Rattle.prog_texts.specs.Mentions as said
 use Rattle.sound_units.specs.Sites.{Each, Part, calls}
 use Rattle.sound_units.specs.Texts.{text_step, has_text}
 use Rattle.sound_units.specs.Checked.{passing, Checked, NameFits}

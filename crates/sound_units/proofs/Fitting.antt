@@ -57,8 +57,8 @@ use Rattle.f77_semantics.specs.Terms as names
 use Rattle.f77_semantics.specs.Terms.{Meant, array_of, base_at, base_of, bounds_at, extent_of, meant_as, intrinsic_meant}
 use Rattle.f77_semantics.specs.Effects.{Effects, ScalarOk, ArrayOk_, ArrayOk}
 use Rattle.f77_check.specs.UnitFaults.{IsSound, of_names}
-use Rattle.prog_check.specs.Mentions as said
-use Rattle.prog_check.specs.Mentions.{is_dummy_procedure, mentions}
+use Rattle.prog_texts.specs.Mentions as said
+use Rattle.prog_texts.specs.Mentions.{is_dummy_procedure, mentions}
 use Rattle.sound_units.specs.Sites.{Each}
 use Rattle.sound_units.specs.Texts.{guards_action}
 use Rattle.sound_units.specs.Checked.{passing, StandsForVariable, StandsForArray, StandsForConstant, StandsForIntrinsic, StandsForFunction, StandsFor, HasList, IsSubroutine, ListFits, NameFits}

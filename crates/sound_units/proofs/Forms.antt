@@ -44,9 +44,9 @@ use Rattle.f77_semantics.specs.Sites.{FunctionsAgree}
 use Rattle.f77_semantics.specs.Source.{is_main, routine}
 use Rattle.f77_semantics.proofs.Trees.{layer}
 use Rattle.f77_semantics.proofs.Sites.{counted}
-use Rattle.prog_check.specs.declared.mentions.Mention.{Mention}
-use Rattle.prog_check.specs.Mentions as said
-use Rattle.prog_check.specs.Mentions.{actual, is_procedure}
+use Rattle.prog_texts.specs.declared.mentions.Mention.{Mention}
+use Rattle.prog_texts.specs.Mentions as said
+use Rattle.prog_texts.specs.Mentions.{actual, is_procedure}
 use Rattle.sound_units.specs.Sites.{Each, site_at, Part, calls, calls_in, calls_optional, calls_of}
 use Rattle.sound_units.specs.Texts.{has_text, item_has, item_has_text, optional_text, form_text_step, form_has_text, return_step, returns_in, is_action, guards_action}
 use Rattle.sound_units.specs.Checked.{passing, IsUse, AllChecked, NameFits, StandsFor, ValueOk}

@@ -18,11 +18,11 @@ use Rattle.f77_values.specs.Tables.{Name, is_among}
 use Rattle.f77_names.specs.Roles.{is_in_table, is_function, type_of}
 use Rattle.f77_names.specs.Occurrences as occurring
 use Rattle.f77_names.specs.Occurrences.{Occurrences, occurs, expr_step, in_expr}
-use Rattle.prog_check.specs.declared.mentions.Mention.{Mention}
-use Rattle.prog_check.specs.declared.mentions.Wanted.TheVariants.{Function}
-use Rattle.prog_check.specs.Mentions as said
-use Rattle.prog_check.specs.Mentions.{Seen, seen_step, expr_says, reference, dummy_procedure, is_dummy_procedure}
-use Rattle.prog_check.proofs.Said.{in_expr-Apply}
+use Rattle.prog_texts.specs.declared.mentions.Mention.{Mention}
+use Rattle.prog_texts.specs.declared.mentions.Wanted.TheVariants.{Function}
+use Rattle.prog_texts.specs.Mentions as said
+use Rattle.prog_texts.specs.Mentions.{Seen, seen_step, expr_says, reference, dummy_procedure, is_dummy_procedure}
+use Rattle.prog_texts.proofs.Said.{in_expr-Apply}
 use Rattle.sound_units.specs.Sites.{Each}
 use Rattle.sound_units.specs.Checked.{passing}
 use Rattle.sound_units.proofs.Lists.{or_left, or_right, any-append, flat}

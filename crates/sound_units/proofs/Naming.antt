@@ -7,8 +7,8 @@ use Rattle.f77_values.specs.Tables.{Name, name_eq}
 use Rattle.f77_semantics.specs.Program.{Routine}
 use Rattle.f77_semantics.specs.Units.{named}
 use Rattle.f77_semantics.specs.Source.{is_main, main_of, routine}
-use Rattle.prog_check.specs.declared.signatures.Signature.{Signature}
-use Rattle.prog_check.specs.Signatures.{signature, named_from, signatures, unit_of}
+use Rattle.prog_texts.specs.declared.signatures.Signature.{Signature}
+use Rattle.prog_texts.specs.Signatures.{signature, named_from, signatures, unit_of}
 use Rattle.sound_units.specs.Sites.{Each}
 use Rattle.sound_units.specs.Accepted.{NamesDiffer}
 use Rattle.sound_units.proofs.Tables.{some_is, told_each, what_each}

@@ -21,20 +21,20 @@ use Rattle.f77_semantics.specs.Source.{is_main, main_of, result_as, result_of, r
 use Rattle.f77_semantics.proofs.Sane.{source_sane}
 use Rattle.prog_check.specs.declared.checks.Check.{Check}
 use Rattle.prog_check.specs.declared.checks.Check.TheVariants as check
-use Rattle.prog_check.specs.declared.cycles.Edge.{Edge}
-use Rattle.prog_check.specs.declared.mentions.Mention.{Mention}
-use Rattle.prog_check.specs.declared.mentions.Mention.TheVariants.{Site, Block, DummyProcedure}
-use Rattle.prog_check.specs.declared.mentions.Site.{Site as CallSite}
-use Rattle.prog_check.specs.declared.mentions.Wanted.{Wanted}
-use Rattle.prog_check.specs.declared.mentions.Wanted.TheVariants.{Subroutine, Function}
-use Rattle.prog_check.specs.declared.signatures.Signature.{Signature}
+use Rattle.call_cycles.specs.declared.cycles.Edge.{Edge}
+use Rattle.prog_texts.specs.declared.mentions.Mention.{Mention}
+use Rattle.prog_texts.specs.declared.mentions.Mention.TheVariants.{Site, Block, DummyProcedure}
+use Rattle.prog_texts.specs.declared.mentions.Site.{Site as CallSite}
+use Rattle.prog_texts.specs.declared.mentions.Wanted.{Wanted}
+use Rattle.prog_texts.specs.declared.mentions.Wanted.TheVariants.{Subroutine, Function}
+use Rattle.prog_texts.specs.declared.signatures.Signature.{Signature}
 use Rattle.prog_check.specs.Checks.{differs, is_function, is_wrong_callee, misuses, shows, line_of, number_of}
-use Rattle.prog_check.specs.Cycles.{Targets, LeadsBack, edge, rows}
+use Rattle.call_cycles.specs.Cycles.{Targets, LeadsBack, edge, rows}
 use Rattle.prog_check.specs.Mains as mains
-use Rattle.prog_check.specs.Mentions.{mentions, site_of, sites}
+use Rattle.prog_texts.specs.Mentions.{mentions, site_of, sites}
 use Rattle.prog_check.specs.ProgramFaults.{IsAccepted, mains as of_mains, calls as of_calls, no_main, text, by_text, by_cycle}
-use Rattle.prog_check.specs.Shown.{mark_at}
-use Rattle.prog_check.specs.Signatures.{Signatures, signature, signatures, unit_of}
+use Rattle.call_cycles.specs.Marks.{mark_at}
+use Rattle.prog_texts.specs.Signatures.{Signatures, signature, signatures, unit_of}
 use Rattle.sound_units.specs.Sites.{Each}
 use Rattle.sound_units.specs.Checked.{passing, NameFits, StandsForVariable}
 use Rattle.sound_units.specs.Units.{meant_of, type_at, effects}

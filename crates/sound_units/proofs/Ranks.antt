@@ -2,10 +2,10 @@
 use Rattle.std.proofs.Common.{◌≡◌, ℕ, zero, suc, ◌+◌, ◌-◌, ◌<◌, ◌≤◌, ◌⊎◌, inl, inr, Bool, true, false, Some, List, [], ◌∷◌, length, slice_get, refl, ap, subst, arith, ⊎_elim, if◌then◌else◌}
 use Rattle.std.specs.Prelude.{slice_index_or}
 use Rattle.std.proofs.lemmas.Option.{slice_get_within}
-use Rattle.prog_check.specs.declared.cycles.Edge.{Edge}
-use Rattle.prog_check.specs.Cycles.{Rows, Targets, Leads, LeadsBack, here, by}
-use Rattle.prog_check.specs.Searching.{led_to}
-use Rattle.prog_check.proofs.Reaching.{found_led, led_found}
+use Rattle.call_cycles.specs.declared.cycles.Edge.{Edge}
+use Rattle.call_cycles.specs.Cycles.{Rows, Targets, Leads, LeadsBack, here, by}
+use Rattle.call_cycles.specs.Searching.{led_to}
+use Rattle.call_cycles.proofs.Reaching.{found_led, led_found}
 use Rattle.sound_units.proofs.Lists.{untrue}
 
 -- ---- counting

@@ -28,14 +28,14 @@ use Rattle.f77_store.specs.Layouts.{callee, callees_with}
 use Rattle.f77_names.specs.Standings.{standing}
 use Rattle.f77_semantics.specs.Effects.{Effects}
 use Rattle.f77_semantics.specs.Terms.{Meant}
-use Rattle.prog_check.specs.declared.mentions.Mention.{Mention}
-use Rattle.prog_check.specs.declared.mentions.Mention.TheVariants.{Site}
-use Rattle.prog_check.specs.declared.mentions.Site.{Site as CallSite}
-use Rattle.prog_check.specs.declared.mentions.Wanted.{Wanted}
-use Rattle.prog_check.specs.declared.mentions.Wanted.TheVariants.{Subroutine, Function}
-use Rattle.prog_check.specs.Mentions as said
-use Rattle.prog_check.specs.Mentions.{Seen, seen_step, expr_says, reference}
-use Rattle.prog_check.proofs.Said.{in_expr-Apply}
+use Rattle.prog_texts.specs.declared.mentions.Mention.{Mention}
+use Rattle.prog_texts.specs.declared.mentions.Mention.TheVariants.{Site}
+use Rattle.prog_texts.specs.declared.mentions.Site.{Site as CallSite}
+use Rattle.prog_texts.specs.declared.mentions.Wanted.{Wanted}
+use Rattle.prog_texts.specs.declared.mentions.Wanted.TheVariants.{Subroutine, Function}
+use Rattle.prog_texts.specs.Mentions as said
+use Rattle.prog_texts.specs.Mentions.{Seen, seen_step, expr_says, reference}
+use Rattle.prog_texts.proofs.Said.{in_expr-Apply}
 use Rattle.sound_units.specs.Sites.{Each}
 use Rattle.sound_units.specs.Checked.{IsSubroutine, ListFits, NameFits}
 use Rattle.sound_units.proofs.Lists.{at_left, at_right, each_right, flat}

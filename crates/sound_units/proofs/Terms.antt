@@ -43,10 +43,10 @@ use Rattle.f77_semantics.specs.Effects.{Effects, HasAll, HasSite, takes, gives, 
 use Rattle.f77_semantics.specs.Sites.{refers, FunctionsAgree}
 use Rattle.f77_semantics.proofs.Trees.{layer}
 use Rattle.f77_semantics.proofs.Sites.{counted}
-use Rattle.prog_check.specs.Mentions as said
-use Rattle.prog_check.specs.Mentions.{Seen, seen_step, expr_says, reference, actual, is_procedure, dummy_procedure, is_dummy_procedure}
-use Rattle.prog_check.specs.declared.mentions.Wanted.TheVariants.{Function}
-use Rattle.prog_check.proofs.Said.{in_expr-Apply}
+use Rattle.prog_texts.specs.Mentions as said
+use Rattle.prog_texts.specs.Mentions.{Seen, seen_step, expr_says, reference, actual, is_procedure, dummy_procedure, is_dummy_procedure}
+use Rattle.prog_texts.specs.declared.mentions.Wanted.TheVariants.{Function}
+use Rattle.prog_texts.proofs.Said.{in_expr-Apply}
 use Rattle.sound_units.specs.Sites.{Each, site_at, Part, calls, calls_in}
 use Rattle.sound_units.specs.Texts.{text_step, has_text}
 use Rattle.sound_units.specs.Checked.{passing, Unpassed, IsUse, Checked, AllChecked, StandsForArray, StandsForIntrinsic, StandsForFunction, StandsFor, HasList, NameFits, ValueOk, TermFits}

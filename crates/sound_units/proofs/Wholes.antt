@@ -41,7 +41,7 @@ use Rattle.f77_semantics.specs.Goes.{IsOne, IsVariable, CountsByVariable, DosHav
 use Rattle.f77_semantics.proofs.Places.{follow_place}
 use Rattle.f77_semantics.proofs.Points.{turns_everywhere}
 use Rattle.f77_check.specs.UnitFaults.{IsSound, of_jumps}
-use Rattle.prog_check.specs.Mentions as said
+use Rattle.prog_texts.specs.Mentions as said
 use Rattle.sound_units.specs.Sites.{Each, site_at, Part, calls_of}
 use Rattle.sound_units.specs.Texts.{form_text_step, return_step}
 use Rattle.sound_units.specs.Checked.{passing, NameFits, StandsFor, StandsForVariable}

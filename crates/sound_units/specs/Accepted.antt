@@ -15,7 +15,7 @@ use Rattle.f77_semantics.specs.Terms as names
 use Rattle.f77_semantics.specs.Effects.{EntryOk}
 use Rattle.f77_semantics.specs.Source.{is_main, routine}
 use Rattle.f77_check.specs.UnitFaults.{IsSound}
-use Rattle.prog_check.specs.Mentions.{mentions}
+use Rattle.prog_texts.specs.Mentions.{mentions}
 use Rattle.sound_units.specs.Checked.{passing, NameFits, StandsForVariable}
 use Rattle.sound_units.specs.Sites.{Each}
 use Rattle.sound_units.specs.Texts.{form_has_text, returns_in, guards_action}

@@ -26,10 +26,10 @@ use Rattle.f77_semantics.specs.Program.{Base, Array, Term, End, ◌and◌}
 use Rattle.f77_semantics.specs.Terms as names
 use Rattle.f77_semantics.specs.Terms.{Meant}
 use Rattle.f77_semantics.specs.Effects.{Effects, ScalarOk, ArrayOk, TermOk, ActualsOk}
-use Rattle.prog_check.specs.declared.mentions.Mention.{Mention}
-use Rattle.prog_check.specs.declared.mentions.Mention.TheVariants.{Site, Block, DummyProcedure}
+use Rattle.prog_texts.specs.declared.mentions.Mention.{Mention}
+use Rattle.prog_texts.specs.declared.mentions.Mention.TheVariants.{Site, Block, DummyProcedure}
 use Rattle.prog_check.specs.Checks.{passes_procedure}
-use Rattle.prog_check.specs.Mentions.{is_procedure, in_expr}
+use Rattle.prog_texts.specs.Mentions.{is_procedure, in_expr}
 use Rattle.sound_units.specs.Texts.{has_text}
 
 -- a procedure as an argument (fault 35)

@@ -18,7 +18,7 @@ use Rattle.f77_parse.specs.Parsed as parsed
 use Rattle.f77_parse.specs.Statements.{HasHead, headed, headless}
 use Rattle.f77_store.specs.Layouts.{local_size}
 use Rattle.prog_check.specs.Limits.{most_storage, storage}
-use Rattle.prog_check.specs.Shown.{mark_at}
+use Rattle.call_cycles.specs.Marks.{mark_at}
 use Rattle.prog_check.specs.ProgramFaults as program
 use Rattle.prog_check.specs.ProgramFaults.{limits, much_storage}
 use Rattle.rn_draft.specs.Accepted.{IsAccepted, Accepted}

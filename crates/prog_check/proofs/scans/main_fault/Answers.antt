@@ -1,5 +1,5 @@
 use Rattle.std.proofs.Common.{subst, sym}
-use Rattle.prog_check.specs.Marks.{Earliest}
+use Rattle.call_cycles.specs.Marks.{Earliest}
 use Rattle.prog_check.specs.ProgramFaults.{MainFaults}
 use Rattle.prog_check.proofs.Telling.{mains_found}
 use Rattle.prog_check.proofs.scans.main_fault.Goals as goal

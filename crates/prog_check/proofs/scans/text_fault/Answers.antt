@@ -1,6 +1,6 @@
 use Rattle.std.proofs.Common.{subst, sym, ap, map, ◌∙◌}
-use Rattle.prog_check.specs.Marks.{Earliest}
-use Rattle.prog_check.specs.Mentions.{mentions}
+use Rattle.call_cycles.specs.Marks.{Earliest}
+use Rattle.prog_texts.specs.Mentions.{mentions}
 use Rattle.prog_check.specs.ProgramFaults.{TextFaults}
 use Rattle.prog_check.specs.Scans.{any_text}
 use Rattle.prog_check.proofs.Telling.{texts_found}

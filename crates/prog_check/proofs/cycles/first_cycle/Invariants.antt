@@ -1,6 +1,0 @@
-use Rattle.std.proofs.Common.{◌≡◌, drop}
-use Rattle.prog_check.specs.Searching.{first_cycle}
-use Rattle.prog_check.proofs.cycles.first_cycle.Given as goal
-
-abbrev pub invariant-loop-place : goal.invariant-loop-place
-invariant-loop-place l = first_cycle l.callers l.ranks.items l.place (drop l.place l.rows) ≡ first_cycle l.callers l.ranks.items 0 l.rows

@@ -1,6 +1,0 @@
-use Rattle.std.proofs.Common.{◌≡◌, ◌++◌, drop, map}
-use Rattle.prog_check.specs.Searching.{row_of}
-use Rattle.prog_check.proofs.cycles.rows_of.Given as goal
-
-abbrev pub invariant-loop-text : goal.invariant-loop-text
-invariant-loop-text l = l.rows ++ map (row_of l.units) (drop l.text-index l.text-items) ≡ map (row_of l.units) l.text-items
