@@ -1,4 +1,4 @@
-//! The faults of a program: what its texts show against each other, cycles of calls, and limits; and which comes first.
+//! The faults of a program, and which comes first.
 #![tactic(auto)]
 
 ghost use Rattle.prog_check.specs.Sites.{SitesAreCallees};
