@@ -92,22 +92,30 @@ def what(pid, words):
     return crate, "tests" if "--test" in words else "proof"
 
 
-def watch(command):
-    """Runs the command, and gives its status, the seconds by the clock, and the processor seconds by crate and kind."""
-    began = time.monotonic()
+def sums(seen):
+    spent = {}
+    for (_, work), seconds in seen.items():
+        spent[work] = spent.get(work, 0) + seconds
+    return spent
+
+
+def watch(command, told):
+    """Runs the command, and gives its status, the seconds by the clock, and the processor seconds by crate and kind. Once a
+    minute what was seen so far is told, so that it stands also where the run is broken off."""
+    began = last = time.monotonic()
     run = subprocess.Popen(command, cwd=ROOT)
     seen = {}
     while run.poll() is None:
+        if time.monotonic() - last > 60:
+            last = time.monotonic()
+            told(sums(seen))
         all_of = processes()
         for pid, (_, seconds, words) in all_of.items():
             work = what(pid, words)
             if work and below(pid, run.pid, all_of):
                 seen[pid, work] = max(seconds, seen.get((pid, work), 0))
         time.sleep(0.3)
-    spent = {}
-    for (_, work), seconds in seen.items():
-        spent[work] = spent.get(work, 0) + seconds
-    return run.returncode, time.monotonic() - began, spent
+    return run.returncode, time.monotonic() - began, sums(seen)
 
 
 def kept_times():
@@ -171,7 +179,8 @@ def main(words):
     spent, status, last = kept_times(), 0, last_run()
     if words[:1] != ["--table"]:
         command = words or ["rt", "ci"]
-        status, clock, new = watch(command)
+        before = dict(spent)
+        status, clock, new = watch(command, lambda so_far: page({**before, **so_far}, last))
         spent.update(new)
         last = [f"The last run of `{' '.join(command)}` took {round(clock / 60)} minutes by the clock and {round(sum(new.values()) / 60)} of a "
                 f"processor, on {os.cpu_count()} processors; what an earlier run had kept isn't in these."]

@@ -46,6 +46,12 @@ apart_then a b c h k = go (by_name a.block b.block) (by_name b.block c.block) re
         read a c Equal (nat_list_cmp_total.congr a.block b.block c.block e ∙ f)
         ∙ within a.from a.size b.from b.size c.from (sym (read a b Equal e) ∙ h) (sym (read b c Equal f) ∙ k)
 
+-- A place stands before both ends where it stands before the nearer one.
+pub before_both : (at m n : ℕ) → (nat_lt at m && nat_lt at n) ≡ nat_lt at (min m n)
+before_both at m n = grind (arith, nat_tests)
+
+pub ruleset shared = (before_both)
+
 no_unit : (af az bf bz : ℕ) → nat_lt (max af bf) (min (af + az) (bf + bz)) ≡ true → nat_le (af + az) bf ≡ true → ⊥
 no_unit af az bf bz h k = grind (arith, nat_tests)
 

@@ -5,9 +5,9 @@ use Rattle.std.proofs.lemmas.Bool.{cases_lt}
 use Rattle.std.proofs.lemmas.List.{drop_more}
 use Rattle.f77_tree.specs.declared.expr.Expr.{Expr}
 use Rattle.f77_tree.specs.declared.unit.Value.{Value}
-use Rattle.f77_store.specs.declared.areas.Place.{Place}
 use Rattle.f77_values.specs.Tables.{Told, saturated, most}
 use Rattle.f77_values.specs.Sizes.{Bounds, extent}
+use Rattle.check_common.specs.declared.places.Start.{Start}
 use Rattle.check_common.specs.declared.runs.Run.{Run}
 use Rattle.check_common.specs.Storage.{steps_in, joined, offset, run_from, element_run}
 
@@ -97,16 +97,13 @@ module _ (all named : Told Value) where
 
 -- ---- the run of an element
 
-sum_saturated : (m k o : ℕ) → o ≡ saturated k → saturated (m + o) ≡ saturated (m + k)
-sum_saturated m k o h = omega (arith, h)
+pub element_some : (start : Start) (offset from : ℕ) (k : Option ℕ) (run : Run) → Some offset ≡ option_map saturated k → from ≡ start.from + offset → run ≡ run_from start.block from 1 → Some run ≡ element_run (Some start) k
+element_some start offset from None run h f r = absurd (some_none offset h)
+element_some start offset from (Some k) run h f r =
+    ap Some (r ∙ ap (λ n. run_from start.block n 1) (f ∙ ap (λ n. start.from + n) (same_some offset (saturated k) h)))
 
-pub element_some : (place : Place) (offset from : ℕ) (k : Option ℕ) (run : Run) → Some offset ≡ option_map saturated k → from ≡ saturated (place.from + offset) → run ≡ run_from place.block from 1 → Some run ≡ element_run (Some place) k
-element_some place offset from None run h f r = absurd (some_none offset h)
-element_some place offset from (Some k) run h f r =
-    ap Some (r ∙ ap (λ n. run_from place.block n 1) (f ∙ sum_saturated place.from k offset (same_some offset (saturated k) h)))
-
-pub element_none : (place : Place) (k : Option ℕ) → None ≡ option_map saturated k → None ≡ element_run (Some place) k
-element_none place None h = refl
-element_none place (Some k) h = absurd (some_none (saturated k) (sym h))
+pub element_none : (start : Start) (k : Option ℕ) → None ≡ option_map saturated k → None ≡ element_run (Some start) k
+element_none start None h = refl
+element_none start (Some k) h = absurd (some_none (saturated k) (sym h))
 
 pub ruleset element_runs = (element_some, element_none)

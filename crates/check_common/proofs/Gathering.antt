@@ -10,12 +10,13 @@ use Rattle.f77_tree.specs.declared.form.Form.TheOpen.{Form-F}
 use Rattle.f77_tree.specs.declared.unit.Stmt.{Stmt}
 use Rattle.f77_tree.specs.declared.unit.Unit.{Unit as SourceUnit}
 use Rattle.f77_tree.specs.declared.unit.Value.{Value}
-use Rattle.f77_store.specs.Areas.{commons, places, size_of}
+use Rattle.f77_store.specs.Areas.{commons, size_of}
 use Rattle.f77_values.specs.Constants.{with_statement}
 use Rattle.f77_names.specs.Declarations.{declarations, shapes}
 use Rattle.f77_values.specs.Tables.{Told, what}
 use Rattle.check_common.specs.declared.storage.Storage.{Storage}
 use Rattle.check_common.specs.declared.initials.Initial.{Initial}
+use Rattle.check_common.specs.Places.{starts}
 use Rattle.check_common.specs.Storage.{storage, whole_run, element_run, offset_in, item_run}
 use Rattle.check_common.specs.Initials.{initial_of, item_initials, list_initials, form_initials, statements_from, unit_initials, is_data, has_data}
 
@@ -43,7 +44,7 @@ unit_without_data place u found h = sym (append-nil found) ∙ ap (λ all. found
 
 -- ---- units without COMMON
 
-module _ (s : Storage) (place : ℕ) (none_placed : s.places ≡ []) where
+module _ (s : Storage) (place : ℕ) (none_placed : s.starts ≡ []) where
   no_run : (named : Told Value) (item : Expr-F Expr) → item_run s named item ≡ None
   no_run named (Expr-F.Scalar name) = ap (λ known. whole_run s name (what known name)) none_placed
   no_run named (Expr-F.Apply name list) = ap (λ known. element_run (what known name) (offset_in s named (what s.shapes name) list)) none_placed
@@ -70,4 +71,4 @@ module _ (s : Storage) (place : ℕ) (none_placed : s.places ≡ []) where
 pub unit_without_common : (place : ℕ) (u : SourceUnit) (found : List Initial) → commons (declarations u.statements) ≡ [] → found ≡ found ++ unit_initials place u
 unit_without_common place u found h =
     sym (append-nil found)
-    ∙ ap (λ all. found ++ all) (sym (without_common (storage u) place (ap (places (size_of (shapes (declarations u.statements)))) h) [] u.statements))
+    ∙ ap (λ all. found ++ all) (sym (without_common (storage u) place (ap (starts (size_of (shapes (declarations u.statements)))) h) [] u.statements))

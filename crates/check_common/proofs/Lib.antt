@@ -2,5 +2,6 @@ mod Members
 mod Searches
 mod Apart
 mod Moving
+mod Totals
 mod Elements
 mod Gathering

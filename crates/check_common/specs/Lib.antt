@@ -1,3 +1,4 @@
+pub mod Places
 pub mod Storage
 pub mod Initials
 pub mod Again

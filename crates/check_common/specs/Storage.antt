@@ -1,32 +1,32 @@
--- The storage units of a COMMON block that an item of DATA stands for (ANSI X3.9-1978, sections 5.2.5, 8.3 and 9.1). The units of a block
--- are counted from 0, in the order of its members. Those from 4,294,967,295 on have no number, and no run has them.
-use Rattle.std.specs.Prelude.{ℕ, ◌+◌, ◌-◌, ◌*◌, min, ◌&&◌, List, [], ◌∷◌, Option, Some, None, ℤ, ◌-ℤ◌, int_le, unsigned_abs, if◌then◌else◌}
+-- The storage units of a COMMON block that an item of DATA stands for (ANSI X3.9-1978, sections 5.2.5, 8.3 and 9.1).
+use Rattle.std.specs.Prelude.{ℕ, ◌+◌, ◌*◌, ◌&&◌, List, [], ◌∷◌, Option, Some, None, ℤ, ◌-ℤ◌, int_le, unsigned_abs, if◌then◌else◌}
 use Rattle.f77_tree.specs.declared.expr.Expr.{Expr}
 use Rattle.f77_tree.specs.declared.expr.Expr.TheOpen.{Expr-F}
 use Rattle.f77_tree.specs.declared.unit.Stmt.{Stmt}
 use Rattle.f77_tree.specs.declared.unit.Unit.{Unit}
 use Rattle.f77_tree.specs.declared.unit.Value.{Value}
 use Rattle.f77_store.specs.declared.areas.Member.{Member}
-use Rattle.f77_store.specs.declared.areas.Place.{Place}
 use Rattle.f77_names.specs.declared.declarations.Shape.{Shape}
-use Rattle.f77_store.specs.Areas.{commons, places, size_of}
+use Rattle.f77_store.specs.Areas.{commons, size_of}
 use Rattle.f77_values.specs.Constants.{constants, value_of}
 use Rattle.f77_names.specs.Declarations.{declarations, shapes}
-use Rattle.f77_values.specs.Tables.{Name, Told, what, saturated, most}
+use Rattle.f77_values.specs.Tables.{Name, Told, what, saturated}
 use Rattle.f77_values.specs.Sizes.{Bounds, whole, lower, upper, extent}
+use Rattle.check_common.specs.declared.places.Start.{Start}
 use Rattle.check_common.specs.declared.storage.Storage.{Storage}
 use Rattle.check_common.specs.declared.runs.Run.{Run}
+use Rattle.check_common.specs.Places.{starts}
 
 abbrev pub storage_with : Told Shape → List Member → List Stmt → Storage
-storage_with shapes members statements = record { places = places (size_of shapes) members; shapes = shapes; constants = constants statements }
+storage_with shapes members statements = record { starts = starts (size_of shapes) members; shapes = shapes; constants = constants statements }
 
 -- where a unit's members of COMMON blocks stand, the shapes of its arrays and its named constants
 abbrev pub storage : Unit → Storage
 storage u = storage_with (shapes (declarations u.statements)) (commons (declarations u.statements)) u.statements
 
--- so many units from this one on, as far as they have numbers
+-- so many units from this one on
 abbrev pub run_from : Name → ℕ → ℕ → Run
-run_from block from size = record { block = block; from = from; size = min size (most - from) }
+run_from block from size = record { block = block; from = from; size = size }
 
 -- ---- elements
 
@@ -55,16 +55,17 @@ offset_in s named (Some shape) list = offset s.constants named shape.bounds list
 
 -- ---- what an item stands for
 
-abbrev pub whole_run : Storage → Name → Option Place → Option Run
+abbrev pub whole_run : Storage → Name → Option Start → Option Run
 whole_run s name None = None
-whole_run s name (Some place) = Some (run_from place.block place.from (size_of s.shapes name))
+whole_run s name (Some start) = Some (run_from start.block start.from (size_of s.shapes name))
 
-abbrev pub element_run : Option Place → Option ℕ → Option Run
-element_run (Some place) (Some k) = Some (run_from place.block (saturated (place.from + k)) 1)
+-- An element so far behind the first one that 32 bits don't tell it is in an array that is a fault of its own unit.
+abbrev pub element_run : Option Start → Option ℕ → Option Run
+element_run (Some start) (Some k) = Some (run_from start.block (start.from + saturated k) 1)
 element_run _ _ = None
 
 -- All of a name, or one element of it. There is none where the name isn't in COMMON, or the element isn't in its array.
 abbrev pub item_run : Storage → Told Value → Expr-F Expr → Option Run
-item_run s named (Expr-F.Scalar name) = whole_run s name (what s.places name)
-item_run s named (Expr-F.Apply name list) = element_run (what s.places name) (offset_in s named (what s.shapes name) list)
+item_run s named (Expr-F.Scalar name) = whole_run s name (what s.starts name)
+item_run s named (Expr-F.Apply name list) = element_run (what s.starts name) (offset_in s named (what s.shapes name) list)
 item_run s named _ = None

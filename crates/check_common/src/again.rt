@@ -1,11 +1,11 @@
 //! The first statement of DATA that initialises what an earlier unit does.
-ghost use Rattle.std.specs.Prelude.{◌≡◌, ◌&&◌, IfOk};
+ghost use Rattle.std.specs.Prelude.{◌≡◌, ◌&&◌, nat_lt, max, min, IfOk};
 ghost use Rattle.check_common.specs.Again as k;
 ghost use Rattle.check_common.specs.Initials as i;
 ghost use Rattle.check_common.specs.Searching as s;
 
 use super::initials::{Initial, initials_of};
-use super::order::{are_apart, end_of, order};
+use super::order::{are_apart, is_within, order};
 use super::runs::Run;
 use f77_tree::Unit;
 use std::alloc::{AllocError, Global};
@@ -17,10 +17,18 @@ pub struct Again {
     pub line: u32,
 }
 
+#[tactic(auto, using(crate::proofs::Apart::shared))]
+fn share(a: &Run, b: &Run) -> bool
+    ensures { result ≡ nat_lt (max a.now.from b.now.from) (min (k.end_of a.now) (k.end_of b.now)) }
+{
+    let at = a.from.max(b.from);
+    is_within(a, at) & is_within(b, at)
+}
+
 fn overlap(a: &Run, b: &Run) -> bool
     ensures { result ≡ k.overlap a.now b.now }
 {
-    (a.from.max(b.from) as u64) < end_of(a).min(end_of(b)) && a.block == b.block
+    a.block == b.block && share(a, b)
 }
 
 fn meets(all: &[Initial], later: &Initial) -> bool

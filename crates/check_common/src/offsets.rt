@@ -8,8 +8,8 @@ ghost use Rattle.check_common.specs.Storage as s;
 use f77_tree::{Expr, Value};
 use f77_values::{Table, evaluate};
 
-/// The number of a block's storage units that have a number.
-pub const MOST: u32 = u32::MAX;
+// The greatest distance that is told.
+const MOST: u32 = u32::MAX;
 
 fn whole(value: Option<Value>) -> Option<i64>
     ensures { result ≡ z.whole value }

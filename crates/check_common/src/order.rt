@@ -1,5 +1,5 @@
 //! Runs in the order of their blocks and places.
-ghost use Rattle.std.specs.Prelude.{◌≡◌};
+ghost use Rattle.std.specs.Prelude.{◌≡◌, ◌≤◌, nat_lt, nat_le};
 ghost use Rattle.std.specs.Ordering.{nat_cmp};
 ghost use Rattle.std.specs.Cmp.Lexicographic.{slice_cmp};
 ghost use Rattle.check_common.specs.Again as k;
@@ -9,11 +9,21 @@ use super::initials::Initial;
 use super::runs::Run;
 use std::cmp::Ordering;
 
-/// The unit behind the last one of a run.
-pub fn end_of(run: &Run) -> u64
-    ensures { result ≡ k.end_of run.now }
+/// Whether a unit that isn't before a run stands before its end.
+pub fn is_within(run: &Run, at: u128) -> bool
+    requires { run.now.from ≤ at }
+    ensures { result ≡ nat_lt at (k.end_of run.now) }
 {
-    run.from as u64 + run.size as u64
+    at - run.from < run.size as u128
+}
+
+fn ends_before(a: &Run, b: &Run) -> bool
+    ensures { result ≡ nat_le (k.end_of a.now) b.now.from }
+{
+    if b.from < a.from {
+        return false;
+    }
+    a.size as u128 <= b.from - a.from
 }
 
 fn block_order(a: &Run, b: &Run) -> Ordering
@@ -32,7 +42,7 @@ fn is_apart(a: &Run, b: &Run) -> bool
 {
     match block_order(a, b) {
         Ordering::Less => true,
-        Ordering::Equal => end_of(a) <= b.from as u64,
+        Ordering::Equal => ends_before(a, b),
         Ordering::Greater => false,
     }
 }

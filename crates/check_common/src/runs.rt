@@ -5,38 +5,40 @@ ghost use Rattle.f77_tree.specs.declared.expr.Expr.{out-Expr};
 ghost use Rattle.f77_values.specs.Tables.{what, saturated};
 ghost use Rattle.check_common.specs.Storage as s;
 
-use super::offsets::{MOST, offset};
+use super::offsets::offset;
+use super::places::Start;
 use super::storage::Storage;
-use f77_store::{Place, size_of};
+use f77_store::size_of;
 use f77_tree::{Expr, List, Name, Value};
 use f77_values::Table;
 use std::alloc::{AllocError, Global};
 
-/// So many storage units of a block from one on, each below 4,294,967,295.
+/// So many storage units of a block from one on.
 #[derive(Drop)]
 pub struct Run {
     pub block: Name,
-    pub from: u32,
+    pub from: u128,
     pub size: u32,
 }
 
-fn run_from(alloc: Global, block: &Name, from: u32, size: u32) -> Result<Run, AllocError>
+fn run_from(alloc: Global, block: &Name, from: u128, size: u32) -> Result<Run, AllocError>
     ensures { IfOk result (λ run. run ≡ s.run_from block.now from size) }
 {
     Ok(Run {
         block: block.copy(alloc)?,
         from,
-        size: size.min(MOST - from),
+        size,
     })
 }
 
 fn whole_run(alloc: Global, storage: &Storage, name: &Name) -> Result<Option<Run>, AllocError>
-    ensures { IfOk result (λ run. run ≡ s.whole_run storage.now name.now (what storage.now.places name.now)) }
+    ensures { IfOk result (λ run. run ≡ s.whole_run storage.now name.now (what storage.now.starts name.now)) }
 {
-    match storage.places.get(name) {
-        Some(place) => {
+    match storage.starts.get(name) {
+        Some(start) => {
             let size = size_of(&storage.shapes, name);
-            Ok(Some(run_from(alloc, &place.block, place.from, size)?))
+            let from = start.from.value();
+            Ok(Some(run_from(alloc, &start.block, from, size)?))
         }
         None => Ok(None),
     }
@@ -62,13 +64,13 @@ fn offset_in(
 }
 
 #[tactic(auto, using(crate::proofs::Elements::element_runs))]
-fn at_offset(alloc: Global, place: &Place, offset: Option<u32>) -> Result<Option<Run>, AllocError>
-    ensures { (k : Option ℕ) → offset ≡ option_map saturated k → IfOk result (λ run. run ≡ s.element_run (Some place.now) k) }
+fn at_offset(alloc: Global, start: &Start, offset: Option<u32>) -> Result<Option<Run>, AllocError>
+    ensures { (k : Option ℕ) → offset ≡ option_map saturated k → IfOk result (λ run. run ≡ s.element_run (Some start.now) k) }
 {
     match offset {
         Some(offset) => {
-            let from = place.from.saturating_add(offset);
-            Ok(Some(run_from(alloc, &place.block, from, 1)?))
+            let from = start.from.value() + offset as u128;
+            Ok(Some(run_from(alloc, &start.block, from, 1)?))
         }
         None => Ok(None),
     }
@@ -81,12 +83,12 @@ fn element_run(
     name: &Name,
     subscripts: &List<Expr>,
 ) -> Result<Option<Run>, AllocError>
-    ensures { IfOk result (λ run. run ≡ s.element_run (what storage.now.places name.now) (s.offset_in storage.now named.now (what storage.now.shapes name.now) subscripts.now)) }
+    ensures { IfOk result (λ run. run ≡ s.element_run (what storage.now.starts name.now) (s.offset_in storage.now named.now (what storage.now.shapes name.now) subscripts.now)) }
 {
-    match storage.places.get(name) {
-        Some(place) => {
+    match storage.starts.get(name) {
+        Some(start) => {
             let found = offset_in(storage, named, name, subscripts);
-            at_offset(alloc, place, found)
+            at_offset(alloc, start, found)
         }
         None => Ok(None),
     }

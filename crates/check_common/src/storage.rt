@@ -4,8 +4,9 @@ ghost use Rattle.f77_store.specs.Areas as b;
 ghost use Rattle.f77_names.specs.Declarations as d;
 ghost use Rattle.check_common.specs.Storage as s;
 
+use super::places::{Start, starts_of};
 use f77_names::{Declaration, Shape, shapes_of};
-use f77_store::{Member, Place, lay_out};
+use f77_store::Member;
 use f77_tree::{List, Stmt, Unit, Value};
 use f77_values::{Table, constants_of};
 use std::alloc::{AllocError, Global};
@@ -13,19 +14,9 @@ use std::alloc::{AllocError, Global};
 /// Where a unit's members of COMMON blocks stand, the shapes of its arrays, and its named constants.
 #[derive(Drop)]
 pub struct Storage {
-    pub places: Table<Place>,
+    pub starts: Table<Start>,
     pub shapes: Table<Shape>,
     pub constants: Table<Value>,
-}
-
-fn places_of(
-    alloc: Global,
-    shapes: &Table<Shape>,
-    members: &List<Member>,
-) -> Result<Table<Place>, AllocError>
-    ensures { IfOk result (λ places. places ≡ b.places (b.size_of shapes.now) members.now) }
-{
-    Ok(lay_out(alloc, shapes, members)?.places)
 }
 
 fn stored(
@@ -36,10 +27,10 @@ fn stored(
 ) -> Result<Storage, AllocError>
     ensures { IfOk result (λ all. all ≡ s.storage_with shapes members.now statements.now) }
 {
-    let places = places_of(alloc, &shapes, members)?;
+    let starts = starts_of(alloc, &shapes, members)?;
     let constants = constants_of(alloc, statements)?;
     Ok(Storage {
-        places,
+        starts,
         shapes,
         constants,
     })

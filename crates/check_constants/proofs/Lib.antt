@@ -1,5 +1,2 @@
 mod Layers
-mod Passing
-mod Pairs
-mod Gathering
-mod Givings
+pub mod Passing

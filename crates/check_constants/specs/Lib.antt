@@ -1,12 +1,5 @@
 pub mod Defined
 pub mod Expressions
 pub mod Needed
-pub mod Measures
-pub mod DataItems
-pub mod DataRuns
-pub mod Pairing
-pub mod DataFaults
 pub mod Passes
-pub mod ValueFaults
-pub mod DataTwice
-pub mod Seen
+pub mod Faults

@@ -1,18 +1,15 @@
-//! The faults of a unit in its constant expressions and in DATA.
+//! The first statement of a unit that needs a constant expression and has none, and what the text before a place
+//! defines: named constants and their values, for the checks of DATA too.
 #![tactic(auto)]
 
-mod data;
-mod data_items;
 mod defined;
-mod elements;
 mod expressions;
-mod given;
-mod measures;
 mod names;
 mod needed;
 mod passes;
-mod repeats;
-mod runs;
 
+pub use defined::{Defined, define_in};
 pub use fault_marks::Mark;
-pub use passes::value_fault;
+pub use names::type_of;
+pub use needed::{is_constant, lower, upper, whole};
+pub use passes::constant_fault;

@@ -1,6 +1,6 @@
 -- The faults of a unit beyond its forms: of names, of labels and nesting, of types, and of constants and DATA. A unit is accepted
 -- where none of them shows.
-use Rattle.std.specs.Prelude.{◌≡◌}
+use Rattle.std.specs.Prelude.{◌≡◌, ◌⊎◌}
 use Rattle.f77_tree.specs.declared.fault.SourceFault.{SourceFault}
 use Rattle.f77_tree.specs.declared.fault.Refused.{Refused}
 use Rattle.f77_tree.specs.declared.fault.Refused.TheVariants.{Fault, OutOfMemory}
@@ -11,7 +11,12 @@ use Rattle.fault_marks.specs.Refusals.{fault_of}
 use Rattle.check_names.specs.NameFaults.{NameFaults}
 use Rattle.check_jumps.specs.Faults.{JumpFaults}
 use Rattle.check_types.specs.TypeFaults.{TypeFaults}
-use Rattle.check_constants.specs.ValueFaults.{ValueFaults}
+use Rattle.check_constants.specs.Faults.{ConstantFaults}
+use Rattle.check_data.specs.Faults.{DataFaults}
+
+-- those of constants and DATA: 22 and 23
+abbrev pub ValueFaults : SourceUnit → Mark → Type 0
+ValueFaults u mark = ConstantFaults u mark ⊎ DataFaults u mark
 
 -- A statement of the unit shows the fault.
 pub data UnitFaults (u : SourceUnit) (mark : Mark) : Type 0 where
@@ -21,8 +26,10 @@ pub data UnitFaults (u : SourceUnit) (mark : Mark) : Type 0 where
   of_jumps : JumpFaults u.statements mark → UnitFaults u mark
   -- 19, 20, 21, 25 and 26
   of_types : TypeFaults u mark → UnitFaults u mark
-  -- 22 and 23
-  of_values : ValueFaults u mark → UnitFaults u mark
+  -- 22
+  of_constants : ConstantFaults u mark → UnitFaults u mark
+  -- 23
+  of_data : DataFaults u mark → UnitFaults u mark
 
 -- The unit has no fault.
 pub record IsSound (u : SourceUnit) : Type 0 where

@@ -4,16 +4,18 @@ ghost use Rattle.f77_names.specs.Declarations.{declarations as declared};
 ghost use Rattle.f77_names.specs.Roles.{facts as facts_in};
 ghost use Rattle.fault_marks.specs.Earliest.{Earliest};
 ghost use Rattle.check_jumps.specs.Faults.{JumpFaults};
-ghost use Rattle.check_constants.specs.ValueFaults.{ValueFaults};
+ghost use Rattle.check_constants.specs.Faults.{in_commons};
 ghost use Rattle.f77_check.specs.UnitFaults as u;
 
-use check_constants::value_fault;
+use check_constants::constant_fault;
+use check_data::data_fault;
 use check_jumps::jump_fault;
 use check_names::name_fault;
 use check_types::type_fault;
 use f77_names::{Declaration, Facts, declarations_of, facts_of, occurrences_of};
-use f77_store::{commons_of, lay_out};
+use f77_store::{Place, commons_of, lay_out};
 use f77_tree::{List, Refused, Stmt, Unit};
+use f77_values::Table;
 use fault_marks::{Mark, first_of, refusal};
 use std::alloc::{AllocError, Global};
 
@@ -41,7 +43,23 @@ fn facts_from(
     Ok(facts)
 }
 
-/// The first fault of constants and DATA.
+/// The first fault of constants and DATA, by the places of the names in COMMON.
+fn values_by(
+    alloc: Global,
+    unit: &Unit,
+    facts: &Facts,
+    commons: &Table<Place>,
+) -> Result<Option<Mark>, AllocError>
+    requires facts { facts.now ≡ facts_in unit.now }
+    requires commons { commons.now ≡ in_commons unit.now }
+    ensures { IfOk result (λ mark. Earliest (u.ValueFaults unit.now) mark) }
+{
+    let of_constants = constant_fault(alloc, unit, facts, commons)?;
+    let of_data = data_fault(alloc, unit, facts, commons)?;
+    Ok(first_of(of_constants, of_data))
+}
+
+/// The same, from the unit's declarations.
 fn values(
     alloc: Global,
     unit: &Unit,
@@ -50,11 +68,11 @@ fn values(
 ) -> Result<Option<Mark>, AllocError>
     requires facts { facts.now ≡ facts_in unit.now }
     requires declarations { declarations.now ≡ declared unit.now.statements }
-    ensures { IfOk result (λ mark. Earliest (ValueFaults unit.now) mark) }
+    ensures { IfOk result (λ mark. Earliest (u.ValueFaults unit.now) mark) }
 {
     let members = commons_of(alloc, declarations)?;
     let areas = lay_out(alloc, &facts.shapes, &members)?;
-    value_fault(alloc, unit, facts, &areas.places)
+    values_by(alloc, unit, facts, &areas.places)
 }
 
 /// The first fault that a statement of the unit shows, by what its text tells of its names.

@@ -16,7 +16,11 @@ use Rattle.f77_values.specs.Arithmetic.{operate, divided, negated, kept, denied}
 use Rattle.f77_values.specs.Tables.{Name}
 use Rattle.f77_flow.specs.Graph.{Point, At, Inside, Test, Advance}
 use Rattle.f77_semantics.specs.Values.{stored, seen, has_type, or_fail, lacking, operated, remainder, intrinsic}
-use Rattle.f77_semantics.specs.Program.{Base, Extent, Array, Term, Literal, Text, Variable, Element, Whole, Reference, Apply, Paren, Negative, Plus, Not, Binary, NoTerm, Terms, End, ◌and◌, Statement, Assign, If, LogicalIf, ArithmeticIf, GoTo, ComputedGoTo, Do, Continue, Call, Return, Print, Read, NoStatement, Bound, DummyArray, Routine}
+use Rattle.f77_semantics.specs.Program.{Term, Literal, Text, Variable, Element, Whole, Reference, Apply, Paren, Negative, Plus, Not, Binary, NoTerm, Terms, End, ◌and◌, Statement, Assign, If, LogicalIf, ArithmeticIf, GoTo, ComputedGoTo, Do, Continue, Call, Return, Print, Read, NoStatement, Bound, DummyArray, Routine}
+use Rattle.f77_semantics.specs.declared.storage.Base.TheVariants.{Dummy}
+use Rattle.f77_semantics.specs.declared.storage.Base.{Base}
+use Rattle.f77_semantics.specs.declared.storage.Extent.{Extent}
+use Rattle.f77_semantics.specs.declared.storage.Array.{Array}
 use Rattle.f77_semantics.specs.Program as program
 use Rattle.f77_semantics.specs.Expressions.{Frame, interval, at, scalar, shape, numbered, integers, element, sequence, resulting, fresh, fetch, store, value, values, actuals}
 use Rattle.f77_semantics.specs.Statements.{Here, set_loop, as_number, as_truth, number, condition, target, written, items, say_all, say_record, read_all, trips, chosen, step_of, to, to_chosen, return, tested, perform, inner, advance, statement, turn_at, turn}
@@ -299,7 +303,7 @@ module _ (f : Frame) where
 
 entry_known : (as_ : List DummyArray) (f : Frame) → Known (entry f as_)
 entry_known [] f = tt
-entry_known (a ∷ as_) f = bind (dimensions f (interval f (program.Dummy a.dummy) 0).length a.bounds) (λ es. entry (with_shape a.dummy es f) as_) (dimensions_known f (interval f (program.Dummy a.dummy) 0).length a.bounds) (λ es. entry_known as_ (with_shape a.dummy es f))
+entry_known (a ∷ as_) f = bind (dimensions f (interval f (Dummy a.dummy) 0).length a.bounds) (λ es. entry (with_shape a.dummy es f) as_) (dimensions_known f (interval f (Dummy a.dummy) 0).length a.bounds) (λ es. entry_known as_ (with_shape a.dummy es f))
 
 then_known : {A B : Type 0} → (o : Outcome A) (f : A → World → Outcome B) → Ending o → ((x : A) (v : World) → Ending (f x v)) → Ending (then_do o f)
 then_known (Fine x v) f k g = g x v

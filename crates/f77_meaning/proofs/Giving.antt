@@ -7,12 +7,13 @@ use Rattle.run_model.specs.Storage.{Loc, loc_eq, Cells}
 use Rattle.f77_tree.specs.declared.unit.Value.{Value}
 use Rattle.f77_values.specs.Tables.{Name}
 use Rattle.f77_semantics.specs.Values.{stored}
-use Rattle.f77_semantics.specs.Program.{Base, Routine}
+use Rattle.f77_semantics.specs.Program.{Routine}
+use Rattle.f77_semantics.specs.declared.storage.Base.{Base}
 use Rattle.f77_semantics.specs.Expressions.{scalar}
 use Rattle.f77_semantics.specs.Data.{beyond}
 use Rattle.f77_semantics.specs.Units.{given_in, given}
-use Rattle.interp_lower.specs.declared.runs.Run.{Run}
-use Rattle.interp_lower.specs.Runs.{given_from, units_of}
+use Rattle.interp_data.specs.declared.spans.Span.{Span}
+use Rattle.interp_data.specs.Spans.{given_from, units_of}
 use Rattle.interp_calls.specs.declared.procedure.Procedure.{Procedure}
 use Rattle.interp_calls.specs.Procedures.{AreUnits}
 use Rattle.f77_meaning.specs.Given.{idle, given_over, given_by}
@@ -59,24 +60,24 @@ one_unit name b skip k v old new all p e given =
 pub no_unit_left : (name : Name) (b : Base) (skip k : ℕ) (v : Value) (old all : Cells) → k ≡ 0 → given_over name (given_from b skip k v) old ≡ all → old ≡ all
 no_unit_left name b skip k v old all e given = ap (λ (n : ℕ). given_over name (given_from b skip n v) old) (sym e) ∙ given
 
-last_run : (runs : List Run) (k : ℕ) (r : Run) → 0 < k → k - 1 < length runs → r ≡ get_or runs (k - 1) r → flat_map units_of (take k runs) ≡ flat_map units_of (take (k - 1) runs) ++ units_of r
-last_run runs k r p l e =
+last_span : (spans : List Span) (k : ℕ) (r : Span) → 0 < k → k - 1 < length spans → r ≡ get_or spans (k - 1) r → flat_map units_of (take k spans) ≡ flat_map units_of (take (k - 1) spans) ++ units_of r
+last_span spans k r p l e =
     let less : k ≡ (k - 1) + 1 = omega arith in
-    let last : Run = get_or runs (k - 1) r in
-    let front : List (Base × Value) = flat_map units_of (take (k - 1) runs) in
-    ap (λ (n : ℕ). flat_map units_of (take n runs)) less
-    ∙ (ap (λ (rs : List Run). flat_map units_of rs) (take_more runs (k - 1) r l)
-    ∙ (flat_map-append units_of (take (k - 1) runs) (last ∷ [])
-    ∙ (ap (λ (cs : List (Base × Value)). front ++ cs) (append-nil (units_of last)) ∙ ap (λ (s : Run). front ++ units_of s) (sym e))))
+    let last : Span = get_or spans (k - 1) r in
+    let front : List (Base × Value) = flat_map units_of (take (k - 1) spans) in
+    ap (λ (n : ℕ). flat_map units_of (take n spans)) less
+    ∙ (ap (λ (rs : List Span). flat_map units_of rs) (take_more spans (k - 1) r l)
+    ∙ (flat_map-append units_of (take (k - 1) spans) (last ∷ [])
+    ∙ (ap (λ (cs : List (Base × Value)). front ++ cs) (append-nil (units_of last)) ∙ ap (λ (s : Span). front ++ units_of s) (sym e))))
 
-pub one_run : (name : Name) (runs : List Run) (k : ℕ) (r : Run) (old new all : Cells) → 0 < k → k - 1 < length runs → r ≡ get_or runs (k - 1) r → new ≡ given_over name (units_of r) old → given_over name (flat_map units_of (take k runs)) old ≡ all → given_over name (flat_map units_of (take (k - 1) runs)) new ≡ all
-one_run name runs k r old new all p l e new_is given =
-    ap (given_over name (flat_map units_of (take (k - 1) runs))) new_is
-    ∙ (sym (given_both name (flat_map units_of (take (k - 1) runs)) (units_of r) old)
-    ∙ (ap (λ (cs : List (Base × Value)). given_over name cs old) (sym (last_run runs k r p l e)) ∙ given))
+pub one_span : (name : Name) (spans : List Span) (k : ℕ) (r : Span) (old new all : Cells) → 0 < k → k - 1 < length spans → r ≡ get_or spans (k - 1) r → new ≡ given_over name (units_of r) old → given_over name (flat_map units_of (take k spans)) old ≡ all → given_over name (flat_map units_of (take (k - 1) spans)) new ≡ all
+one_span name spans k r old new all p l e new_is given =
+    ap (given_over name (flat_map units_of (take (k - 1) spans))) new_is
+    ∙ (sym (given_both name (flat_map units_of (take (k - 1) spans)) (units_of r) old)
+    ∙ (ap (λ (cs : List (Base × Value)). given_over name cs old) (sym (last_span spans k r p l e)) ∙ given))
 
-pub no_run_left : (name : Name) (runs : List Run) (k : ℕ) (old all : Cells) → k ≡ 0 → given_over name (flat_map units_of (take k runs)) old ≡ all → old ≡ all
-no_run_left name runs k old all e given = ap (λ (n : ℕ). given_over name (flat_map units_of (take n runs)) old) (sym e) ∙ given
+pub no_span_left : (name : Name) (spans : List Span) (k : ℕ) (old all : Cells) → k ≡ 0 → given_over name (flat_map units_of (take k spans)) old ≡ all → old ≡ all
+no_span_left name spans k old all e given = ap (λ (n : ℕ). given_over name (flat_map units_of (take n spans)) old) (sym e) ∙ given
 
 pub none_given : (ps : List Procedure) (old : Cells) → ((l : Loc) → old l ≡ None) → given_by (take (length ps) ps) old ≡ given_by ps (λ l. None)
 none_given ps old e =

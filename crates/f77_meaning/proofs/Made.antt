@@ -16,7 +16,6 @@ use Rattle.f77_semantics.specs.Resolve.{statements_from}
 use Rattle.f77_semantics.specs.Source.{is_main, meant_in, routine}
 use Rattle.f77_semantics.specs.Units.{is_kept}
 use Rattle.interp_turns.specs.Flows.{Follows}
-use Rattle.interp_lower.specs.Cells.{kept_of}
 use Rattle.interp_lower.specs.Routines.{dummy_of}
 use Rattle.interp_lower.specs.Units.{StandsFor}
 use Rattle.interp_calls.specs.declared.procedure.Procedure.{Procedure}
@@ -49,7 +48,7 @@ made_more find units i u ps qs p l e pushed are is =
 
 -- a procedure by its parts
 pub is_unit : (find : Name → ℕ) (p : Procedure) (u : Routine) → StandsFor p.routine u → Follows u p.control.statements.now → u.first ≡ blocks.first p.control.statements.now → length u.statements ≡ length p.control.statements.now
-    → ((k : ℕ) → is_marked p.kept.items k ≡ is_kept (map kept_of p.routine.cells.kept) k) → ((j : ℕ) → is_marked p.arrays.items j ≡ is_dimensioned (map dummy_of p.routine.dummy_arrays) j) → p.own ≡ find p.routine.name → p.callees.items ≡ map find p.routine.callees → IsUnit find p u
+    → ((k : ℕ) → is_marked p.kept.items k ≡ is_kept p.routine.cells.kept k) → ((j : ℕ) → is_marked p.arrays.items j ≡ is_dimensioned (map dummy_of p.routine.dummy_arrays) j) → p.own ≡ find p.routine.name → p.callees.items ≡ map find p.routine.callees → IsUnit find p u
 is_unit find p u stands follows first lines kept arrays own callees = record {
   stands = stands;
   follows = follows;

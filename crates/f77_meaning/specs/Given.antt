@@ -4,9 +4,9 @@ use Rattle.run_model.specs.Storage.{Cells, loc_eq}
 use Rattle.f77_tree.specs.declared.unit.Value.{Value}
 use Rattle.f77_values.specs.Tables.{Name}
 use Rattle.f77_semantics.specs.Values.{stored}
-use Rattle.f77_semantics.specs.Program.{Base}
+use Rattle.f77_semantics.specs.declared.storage.Base.{Base}
 use Rattle.f77_semantics.specs.Expressions.{Frame, scalar}
-use Rattle.interp_lower.specs.Runs.{units_of}
+use Rattle.interp_data.specs.Spans.{units_of}
 use Rattle.interp_calls.specs.declared.procedure.Procedure.{Procedure}
 
 -- a unit of this name that isn't called

@@ -1,4 +1,4 @@
-//! The interpreter.
+//! Running a program with its input: what it writes, and how it ends.
 ghost use Rattle.std.specs.Prelude.{◌≡◌, Err, IfOk, OnOk, OnErr};
 ghost use Rattle.std.specs.Io.KnownBytes.{Appends};
 ghost use Rattle.run_model.specs.Runs.{text_of};

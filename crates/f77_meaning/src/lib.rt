@@ -1,4 +1,4 @@
-//! The meaning of a program, run step by step.
+//! The interpreter: it runs a program with its input, as the meaning says.
 #![tactic(auto)]
 
 mod interpreter;

@@ -2,12 +2,12 @@
 ghost use Rattle.std.specs.Prelude.{◌≡◌, ℕ, ◌≤◌, ◌||◌, length, map, IfOk, OnOk};
 ghost use Rattle.f77_semantics.specs.Units.{is_kept};
 ghost use Rattle.interp_cells.specs.Rows.{is_marked};
-ghost use Rattle.interp_lower.specs.Cells.{kept_of};
 ghost use Rattle.interp_lower.specs.Routines.{dummy_of};
 ghost use Rattle.f77_meaning.specs.Marks as m;
 
+use f77_semantics::Kept;
 use f77_tree::List;
-use interp_lower::{DummyArray, Kept};
+use interp_lower::DummyArray;
 use std::alloc::{AllocError, Global};
 
 fn make_room(marks: &mut Vec<bool>, end: usize) -> Result<(), AllocError>
@@ -33,7 +33,7 @@ fn mark(marks: &mut Vec<bool>, from: usize, length: usize) -> Result<(), AllocEr
 
 /// Marks of the local cells that are kept.
 pub fn kept_marks(alloc: Global, kept: &List<Kept>) -> Result<Vec<bool>, AllocError>
-    ensures { IfOk result (λ marks. (k : ℕ) → is_marked marks.items k ≡ is_kept (map kept_of kept.now) k) }
+    ensures { IfOk result (λ marks. (k : ℕ) → is_marked marks.items k ≡ is_kept kept.now k) }
 {
     let mut marks = Vec::new(alloc);
     for cells in kept.as_slice() {

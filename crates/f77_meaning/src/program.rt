@@ -23,7 +23,7 @@ use super::runs::{InterpretRefused, Run, Undefinedness};
 use super::start::given;
 use f77_tree::{Unit, Value};
 use interp_calls::{Halt, Procedure, call};
-use interp_steps::{Machine, Stop};
+use interp_steps::{State, Stop};
 use rn_ports::Sink;
 use sound_units::programs_law;
 use std::alloc::{AllocError, Global};
@@ -33,11 +33,11 @@ fn start<'i>(
     procedures: &[Procedure],
     input: &'i [i64],
     steps: u64,
-) -> Result<Machine<'i>, AllocError>
+) -> Result<State<'i>, AllocError>
     ensures { (find : Word → ℕ) → (us : Lists program.Routine) → AreUnits find procedures.now us → IfOk result (λ m. world_of m ≡ u.fresh_world us input.now steps) }
 {
     let storage = given(alloc, procedures)?;
-    Ok(Machine {
+    Ok(State {
         storage,
         out: Vec::new(alloc),
         input,
@@ -45,7 +45,7 @@ fn start<'i>(
     })
 }
 
-// The end of the main program, with all that was printed sent where it stopped, and the machine there. Where memory is wanting before the
+// The end of the main program, with all that was printed sent where it stopped, and the state there. Where memory is wanting before the
 // program begins, nothing is sent.
 fn run_main<'i, O: Sink>(
     alloc: Global,
@@ -54,7 +54,7 @@ fn run_main<'i, O: Sink>(
     input: &'i [i64],
     steps: u64,
     out: &mut O,
-) -> Result<(Result<Option<Value>, Halt>, Machine<'i>), AllocError>
+) -> Result<(Result<Option<Value>, Halt>, State<'i>), AllocError>
     requires { main < length units.now }
     ensures run { (m : spec.Unit) → slice_get units.now main ≡ Some m → IfOk result (λ p. Sends p.0 (λ v. acts.Fine (option_map stored v)) (u.fresh_world (map source.routine units.now) input.now steps) (world_of p.1) (O.written out.old) (O.written out.new) (u.meaning (u.named (map source.routine units.now) (source.routine m)) (length units.now) m.name [])) }
     ensures all { IfOk result (λ p. IsWhole p.0 → p.1.out.items ≡ []) }
@@ -63,7 +63,7 @@ fn run_main<'i, O: Sink>(
 {
     let places = places_of(alloc, units)?;
     let procedures = procedures_of(alloc, units, &places, main)?;
-    let mut machine = start(alloc, procedures.as_slice(), input, steps)?;
+    let mut state = start(alloc, procedures.as_slice(), input, steps)?;
     let at = find(&places, main, &units[main].name);
     let end = call(
         alloc,
@@ -71,10 +71,10 @@ fn run_main<'i, O: Sink>(
         at,
         &[],
         units.len(),
-        &mut machine,
+        &mut state,
         out,
     );
-    Ok((end, machine))
+    Ok((end, state))
 }
 
 fn undefinedness(number: u8) -> Undefinedness
@@ -96,10 +96,10 @@ fn undefinedness(number: u8) -> Undefinedness
 fn told(
     steps: u64,
     end: Result<Option<Value>, Halt>,
-    machine: &Machine,
+    state: &State,
 ) -> Result<Run, InterpretRefused>
     requires { IsEnd end }
-    ensures told { (start now : Option (Lists ℕ)) → (o : acts.Outcome acts.Answer) → (IsWhole end → machine.now.out.items ≡ []) → Reaches end (λ v. acts.Fine (option_map stored v)) start now (world_of machine.now) o → (runs.answer steps o ≡ runs.Wrong → ⊥) → IsTold result start now (runs.answer steps o) }
+    ensures told { (start now : Option (Lists ℕ)) → (o : acts.Outcome acts.Answer) → (IsWhole end → state.now.out.items ≡ []) → Reaches end (λ v. acts.Fine (option_map stored v)) start now (world_of state.now) o → (runs.answer steps o ≡ runs.Wrong → ⊥) → IsTold result start now (runs.answer steps o) }
     ensures fault { result ≡ Err InterpretRefused.WriteFault → end ≡ Err Halt.WriteFault }
 {
     match end {
@@ -107,7 +107,7 @@ fn told(
         Err(Halt::Stop(Stop::Ended(status))) => Ok(Run::Ended(status)),
         Err(Halt::Stop(Stop::Undefined(number))) => {
             let cause = undefinedness(number);
-            let step = steps.saturating_sub(machine.left);
+            let step = steps.saturating_sub(state.left);
             Ok(Run::Undefined(step, cause))
         }
         Err(Halt::Stop(Stop::OutOfMemory)) => Err(InterpretRefused::OutOfMemory),
@@ -133,8 +133,8 @@ pub fn outcome<O: Sink>(
     programs_law();
     match main_place(units) {
         Some(main) => {
-            let (end, machine) = run_main(alloc, units, main, input, steps, out)?;
-            told(steps, end, &machine)
+            let (end, state) = run_main(alloc, units, main, input, steps, out)?;
+            told(steps, end, &state)
         }
         None => unreachable!(),
     }

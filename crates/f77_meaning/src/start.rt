@@ -4,15 +4,14 @@ ghost use Rattle.f77_semantics.specs.Data.{beyond};
 ghost use Rattle.f77_semantics.specs.Expressions.{scalar};
 ghost use Rattle.interp_cells.specs.Cells.{cells_of};
 ghost use Rattle.interp_cells.specs.Spots.{loc_of};
-ghost use Rattle.interp_code.specs.Denoted.{base_of};
-ghost use Rattle.interp_lower.specs.Runs.{units_of};
+ghost use Rattle.interp_data.specs.Spans.{units_of};
 ghost use Rattle.f77_meaning.specs.Given as g;
 
+use f77_semantics::Base;
 use f77_tree::{List, Name};
 use interp_calls::Procedure;
 use interp_cells::{Area, Spot, Storage};
-use interp_code::Base;
-use interp_lower::Run;
+use interp_data::Span;
 use std::alloc::{AllocError, Global};
 
 fn offset(from: u32, far: u64) -> Result<usize, AllocError>
@@ -23,7 +22,7 @@ fn offset(from: u32, far: u64) -> Result<usize, AllocError>
 
 // The storage unit so many behind the beginning of a name, in a unit that isn't called.
 fn spot_behind<'a>(name: &'a Name, base: &'a Base, far: u64) -> Result<Spot<'a>, AllocError>
-    ensures { IfOk result (λ s. loc_of s ≡ scalar (g.idle name.now) (beyond (base_of base.now) far)) }
+    ensures { IfOk result (λ s. loc_of s ≡ scalar (g.idle name.now) (beyond base.now far)) }
 {
     match base {
         Base::Dummy(_) => Ok(Spot {
@@ -47,41 +46,41 @@ fn behind(skip: u64, far: u64) -> Result<u64, AllocError>
     skip.checked_add(far).ok_or(AllocError)
 }
 
-// Gives one storage unit of a run its value.
+// Gives one storage unit of a span its value.
 fn give_unit(
     alloc: Global,
     cells: &mut Storage,
     name: &Name,
-    run: &Run,
+    span: &Span,
     k: u64,
 ) -> Result<(), AllocError>
-    ensures { OnOk result (cells_of cells.new ≡ g.given_over name.now ((beyond (base_of run.now.base) (run.now.skip + k), run.now.value) ∷ []) (cells_of cells.old)) }
+    ensures { OnOk result (cells_of cells.new ≡ g.given_over name.now ((beyond span.now.base (span.now.skip + k), span.now.value) ∷ []) (cells_of cells.old)) }
 {
-    let spot = spot_behind(name, &run.base, behind(run.skip, k)?)?;
-    cells.put(alloc, spot, run.value)
+    let spot = spot_behind(name, &span.base, behind(span.skip, k)?)?;
+    cells.put(alloc, spot, span.value)
 }
 
 // What is given first wins, so the last goes first.
-fn give_run(alloc: Global, cells: &mut Storage, name: &Name, run: &Run) -> Result<(), AllocError>
-    ensures { OnOk result (cells_of cells.new ≡ g.given_over name.now (units_of run.now) (cells_of cells.old)) }
+fn give_span(alloc: Global, cells: &mut Storage, name: &Name, span: &Span) -> Result<(), AllocError>
+    ensures { OnOk result (cells_of cells.new ≡ g.given_over name.now (units_of span.now) (cells_of cells.old)) }
 {
-    for k in (0..run.count).rev() {
-        give_unit(alloc, cells, name, run, k)?;
+    for k in (0..span.count).rev() {
+        give_unit(alloc, cells, name, span, k)?;
     }
     Ok(())
 }
 
-fn give_runs(
+fn give_spans(
     alloc: Global,
     cells: &mut Storage,
     name: &Name,
-    runs: &List<Run>,
+    spans: &List<Span>,
 ) -> Result<(), AllocError>
-    ensures { OnOk result (cells_of cells.new ≡ g.given_over name.now (flat_map units_of runs.now) (cells_of cells.old)) }
+    ensures { OnOk result (cells_of cells.new ≡ g.given_over name.now (flat_map units_of spans.now) (cells_of cells.old)) }
 {
-    let all = runs.as_slice();
+    let all = spans.as_slice();
     for k in (0..all.len()).rev() {
-        give_run(alloc, cells, name, &all[k])?;
+        give_span(alloc, cells, name, &all[k])?;
     }
     Ok(())
 }
@@ -93,7 +92,7 @@ pub fn given(alloc: Global, procedures: &[Procedure]) -> Result<Storage, AllocEr
     let mut cells = Storage::new(alloc);
     for k in (0..procedures.len()).rev() {
         let routine = &procedures[k].routine;
-        give_runs(alloc, &mut cells, &routine.name, &routine.cells.initial)?;
+        give_spans(alloc, &mut cells, &routine.name, &routine.cells.initial)?;
     }
     Ok(cells)
 }

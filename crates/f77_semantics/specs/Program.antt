@@ -6,28 +6,15 @@ use Rattle.f77_tree.specs.declared.unit.Value.{Value}
 use Rattle.f77_names.specs.declared.intrinsics.Intrinsic.{Intrinsic}
 use Rattle.f77_values.specs.Tables.{Name}
 use Rattle.f77_flow.specs.Graph.{Point}
-
--- where a name of a unit stands: a dummy by position, the local area or a COMMON block from an offset on
-pub data Base : Type 0 where
-  Dummy : ℕ → Base
-  Own : (from : ℕ) → Base
-  Common : Name → (from : ℕ) → Base
-
--- a dimension: its lower bound and its size
-pub record Extent : Type 0 where
-  pub lower : ℤ
-  pub size : ℕ
-
--- the bounds of an array: known, or fixed at the entry for a dummy
-pub data Bounds : Type 0 where
-  Known : List Extent → Bounds
-  AtEntry : (dummy : ℕ) → Bounds
-
--- the length is that of an array that is no dummy
-pub record Array : Type 0 where
-  pub base : Base
-  pub length : ℕ
-  pub bounds : Bounds
+-- Where names stand is a type of the code: a dummy by position, the local area or a COMMON block from an offset on; an array's bounds,
+-- known, or fixed at the entry for a dummy, and its length, which is that of one that is no dummy; the local cells with SAVE or DATA.
+pub use Rattle.f77_semantics.specs.declared.storage.Base.{Base}
+pub use Rattle.f77_semantics.specs.declared.storage.Base.TheVariants.{Dummy, Own, Common}
+pub use Rattle.f77_semantics.specs.declared.storage.Extent.{Extent}
+pub use Rattle.f77_semantics.specs.declared.storage.Bounds.{Bounds}
+pub use Rattle.f77_semantics.specs.declared.storage.Bounds.TheVariants.{Known, AtEntry}
+pub use Rattle.f77_semantics.specs.declared.storage.Array.{Array}
+pub use Rattle.f77_semantics.specs.declared.storage.Kept.{Kept}
 
 -- A site is a reference or a CALL, by its number.
 mutual
@@ -76,11 +63,6 @@ pub record Bound : Type 0 where
 pub record DummyArray : Type 0 where
   pub dummy : ℕ
   pub bounds : List Bound
-
--- consecutive storage units of the local area
-pub record Kept : Type 0 where
-  pub from : ℕ
-  pub length : ℕ
 
 -- A unit. Statements are numbered from 0, sites from 1.
 pub record Routine : Type 0 where

@@ -36,6 +36,8 @@
 //! steps, and `Trees` what trees are looked up to.
 #![tactic(auto)]
 
+mod storage;
+
 ghost use Rattle.std.specs.Prelude.{◌≡◌, ℕ, suc, ◌+◌, ◌<◌, List, ℤ, false, length, map, Some};
 ghost use Rattle.run_model.specs.Storage.{Interval};
 ghost use Rattle.run_model.specs.Acts.{World};
@@ -48,6 +50,8 @@ ghost use Rattle.f77_semantics.specs.Effects.{Effects, ProgramOk};
 ghost use Rattle.f77_semantics.specs.Goes.{GoesByTheFlow, PlacesArePoints, StaysOnPlaces, TurnsEverywhere};
 ghost use Rattle.f77_semantics.specs.Sites.{SitesAreCallees};
 ghost use Rattle.f77_semantics.specs.Source.{Source, main_of, routine};
+
+pub use storage::{Array, Base, Bounds, Extent, Kept};
 
 /// A unit's run is its own statements' with the callees' runs in the place of its calls.
 pub fn joining_law()

@@ -4,7 +4,8 @@ use Rattle.run_model.specs.Storage.{Interval}
 use Rattle.run_model.specs.Acts.{World, then_do, Act, Done, and_then, Handler, play}
 use Rattle.run_model.specs.Turns.{run_from}
 use Rattle.interp_cells.specs.Rows.{is_marked}
-use Rattle.f77_semantics.specs.Program.{DummyArray, Extent, Routine}
+use Rattle.f77_semantics.specs.Program.{DummyArray, Routine}
+use Rattle.f77_semantics.specs.declared.storage.Extent.{Extent}
 use Rattle.f77_semantics.specs.Expressions.{Frame, only_first}
 use Rattle.f77_semantics.specs.Statements.{turn}
 use Rattle.f77_semantics.specs.Units.{with_shape, entry, is_array, associated, entered, beginning, cleared, run_unit}

@@ -3,14 +3,12 @@ use Rattle.std.specs.Borrow.{Bor}
 use Rattle.std.specs.Slice.{IsItemAt}
 use Rattle.std.proofs.Common.{◌≡◌, ℕ, zero, suc, ◌≤◌, List, [], ◌∷◌, length, Option, None, Some, MatchOption, slice_get, refl, sym, ap, ◌∙◌, subst, arith}
 use Rattle.run_model.specs.Acts.{Fail, Stuck}
-use Rattle.f77_semantics.specs.Program.{Base, Term, Statement, LogicalIf, Do, NoStatement, Routine}
+use Rattle.f77_semantics.specs.Program.{Term, Statement, LogicalIf, Do, NoStatement, Routine}
+use Rattle.f77_semantics.specs.declared.storage.Base.{Base}
+use Rattle.interp_code.specs.declared.ending.Ending.TheVariants.{Count}
 use Rattle.f77_semantics.specs.Expressions.{Frame}
 use Rattle.f77_semantics.specs.Statements.{Here, inner, advance}
-use Rattle.interp_code.specs.declared.storage.Base as code
-use Rattle.interp_code.specs.declared.ending.Ending as written
-use Rattle.interp_code.specs.declared.ending.Ending.TheVariants as ends
-use Rattle.interp_code.specs.Denoted.{ending_of}
-use Rattle.interp_code.specs.Endings.{Count, ending}
+use Rattle.interp_code.specs.Endings.{ending}
 use Rattle.interp_lower.specs.declared.piece.Piece.{Piece}
 use Rattle.interp_lower.specs.declared.piece.Line.{Line}
 use Rattle.interp_calls.proofs.Items.{item_there, item_not}
@@ -63,10 +61,6 @@ counts (Do c e1 e2 e3) b e =
     let same : c ≡ b = cc in
     record { first = e1; last = e2; step = e3; is = ap (λ (x : Base). Do x e1 e2 e3) same }
 counts t b e = absurd cc
-
-pub counts_not : (e : written.Ending) → ((x : code.Base) → e ≡ ends.Count x → ⊥) → (b : Base) → ending_of e ≡ Count b → ⊥
-counts_not (ends.Count x) not b e = not x refl
-counts_not _ not b e = cc
 
 pub advance_not : (u : Routine) (f : Frame) (s : Here) (k : ℕ) (t : Statement) → ((b : Base) → ending t ≡ Count b → ⊥) → advance u f s k t ≡ Fail Stuck
 advance_not u f s k (Do b e1 e2 e3) not = absurd (not b refl)

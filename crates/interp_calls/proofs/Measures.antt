@@ -3,7 +3,7 @@ use Rattle.std.proofs.Common.{◌≡◌, ℕ, ◌<◌, ◌*◌, List, [], ◌∷
 use Rattle.std.proofs.lemmas.Bool.{lt-ltb}
 use Rattle.std.proofs.Math.Nat.{div-eq_of_lt}
 use Rattle.run_model.specs.Acts.{Act, Done, Fail, Undefined, and_then}
-use Rattle.f77_semantics.specs.Program.{Extent}
+use Rattle.f77_semantics.specs.declared.storage.Extent.{Extent}
 use Rattle.f77_semantics.specs.Units.{filled, product, total}
 use Rattle.interp_calls.specs.Bounds.{excess, shape_in}
 

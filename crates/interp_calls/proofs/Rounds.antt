@@ -4,13 +4,11 @@ use Rattle.run_model.specs.Acts.{World, and_then, Handler}
 use Rattle.run_model.specs.Turns.{turns, run_from}
 use Rattle.f77_flow.specs.Graph.{At}
 use Rattle.f77_semantics.specs.Program.{Statement, Routine}
-use Rattle.interp_code.specs.Denoted.{step_of, ending_of}
 use Rattle.interp_code.specs.Endings.{finish}
 use Rattle.interp_code.specs.Steps.{steps}
 use Rattle.interp_code.proofs.Statements.{performs}
 use Rattle.interp_lower.specs.declared.piece.Piece.{Piece}
 use Rattle.interp_lower.specs.Lines.{IsPiece}
-use Rattle.interp_calls.proofs.Stepping.{steps_are}
 use Rattle.f77_semantics.specs.Expressions.{Frame}
 use Rattle.f77_semantics.specs.Statements as running
 use Rattle.f77_semantics.specs.Statements.{turn, turn_at, perform}
@@ -31,5 +29,5 @@ pub turn_is : (u : Routine) (f : Frame) (s : Here) (p : Point) → s.point ≡ p
 turn_is u f s p e = ap (λ q. turn_at u f (here_of s) (point_of q)) e
 
 -- a statement is the steps and the ending of its piece
-pub piece_is : (u : Routine) (f : Frame) (s : running.Here) (k : ℕ) (p : Piece) (t : Statement) → IsPiece p t → perform u f s k t ≡ and_then (steps f (map step_of p.steps) []) (finish u f s k (ending_of p.ending))
-piece_is u f s k p t is = performs u f s k t ∙ (λ i. and_then (steps f ((sym is.steps ∙ steps_are p.steps) i) []) (finish u f s k (sym is.ending i)))
+pub piece_is : (u : Routine) (f : Frame) (s : running.Here) (k : ℕ) (p : Piece) (t : Statement) → IsPiece p t → perform u f s k t ≡ and_then (steps f p.steps []) (finish u f s k p.ending)
+piece_is u f s k p t is = performs u f s k t ∙ (λ i. and_then (steps f (sym is.steps i) []) (finish u f s k (sym is.ending i)))

@@ -2,7 +2,7 @@
 use Rattle.std.specs.Prelude.{ℕ, List, [], ◌∷◌, Option, Some, None, ℤ, pos, ◌+ℤ◌, ◌-ℤ◌, nat_lt, if◌then◌else◌}
 use Rattle.run_model.specs.Acts.{Act, Reason, Done, Fail, Undefined, and_then}
 use Rattle.f77_tree.specs.declared.unit.Value.TheVariants.{Integer}
-use Rattle.f77_semantics.specs.Program.{Extent}
+use Rattle.f77_semantics.specs.declared.storage.Extent.{Extent}
 use Rattle.f77_semantics.specs.Units.{positive, filled, product, total, divide}
 use Rattle.f77_semantics.specs.Values.{or_fail}
 use Rattle.interp_code.specs.Entries.{pairs_in}

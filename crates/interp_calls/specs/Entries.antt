@@ -3,7 +3,7 @@ use Rattle.std.specs.Prelude.{ℕ, suc, List, [], ◌∷◌, Bool, if◌then◌e
 use Rattle.run_model.specs.Storage.{Interval}
 use Rattle.run_model.specs.Acts.{Act, Done, and_then}
 use Rattle.interp_cells.specs.Rows.{is_marked}
-use Rattle.f77_semantics.specs.Program.{Dummy}
+use Rattle.f77_semantics.specs.declared.storage.Base.TheVariants.{Dummy}
 use Rattle.f77_semantics.specs.Expressions.{Frame, interval, only_first}
 use Rattle.f77_semantics.specs.Units.{with_shape}
 use Rattle.interp_code.specs.Steps.{Operands, steps}

@@ -1,4 +1,4 @@
--- Runs whose sink gets what they say as it is said. What a machine has printed and its sink hasn't got yet is the output of its world.
+-- Runs whose sink gets what they say as it is said. What a state has printed and its sink hasn't got yet is the output of its world.
 use Rattle.std.specs.Prelude.{◌≡◌, ℕ, List, Option, Result, Ok, Err, MatchResult, Bool, true, false}
 use Rattle.std.specs.Io.KnownBytes.{Appends}
 use Rattle.run_model.specs.Acts as acts

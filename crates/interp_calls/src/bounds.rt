@@ -3,7 +3,6 @@ ghost use Rattle.std.specs.Prelude.{◌≡◌, ℕ, [], ◌++◌, ◌*◌, None,
 ghost use Rattle.run_model.specs.Acts as a;
 ghost use Rattle.f77_semantics.specs.Units as u;
 ghost use Rattle.f77_semantics.specs.Values as v;
-ghost use Rattle.interp_code.specs.Denoted.{extent_of};
 ghost use Rattle.interp_code.specs.Entries as c;
 ghost use Rattle.interp_code.specs.Steps as s;
 ghost use Rattle.interp_steps.specs.Stacks.{operand_of, stack_of};
@@ -11,8 +10,8 @@ ghost use Rattle.interp_steps.specs.Stops.{Gives, Stopped};
 ghost use Rattle.interp_calls.specs.Bounds as b;
 ghost use Rattle.interp_calls.specs.Gathering.{behind};
 
+use f77_semantics::Extent;
 use f77_tree::{List, Value};
-use interp_code::Extent;
 use interp_steps::{Operand, Stop};
 use std::alloc::{AllocError, Global};
 
@@ -151,7 +150,7 @@ fn divide(n: u64, d: u64) -> u64
 
 // With `*` for an upper bound, that is what is left.
 fn filled_one(star: u64, extent: &Sized) -> Result<Extent, Stop>
-    ensures { Gives result extent_of (b.filled_one star extent.now) }
+    ensures { Gives result (λ e. e) (b.filled_one star extent.now) }
 {
     match extent.1 {
         Some(size) => Ok(Extent {
@@ -172,7 +171,7 @@ fn filled_one(star: u64, extent: &Sized) -> Result<Extent, Stop>
 }
 
 fn push_filled(all: &mut List<Extent>, star: u64, extents: &[Sized]) -> Result<(), Stop>
-    ensures { Gives result (λ _. map extent_of all.new) (behind (map extent_of all.old) (u.filled star extents.now)) }
+    ensures { Gives result (λ _. all.new) (behind all.old (u.filled star extents.now)) }
 {
     match extents.split_first() {
         None => Ok(()),
@@ -188,7 +187,7 @@ fn push_filled(all: &mut List<Extent>, star: u64, extents: &[Sized]) -> Result<(
 
 // How many elements a shape has, where that isn't more than `long`.
 fn total(long: u64, extents: &[Extent]) -> Option<u64>
-    ensures { MatchOption result (long < u.total (map extent_of extents.now)) (λ n. n ≡ u.total (map extent_of extents.now)) }
+    ensures { MatchOption result (long < u.total extents.now) (λ n. n ≡ u.total extents.now) }
 {
     match extents.split_first() {
         None => Some(1),
@@ -229,7 +228,7 @@ fn extents_of(alloc: Global, pairs: &[Pair]) -> Result<List<Sized>, Stop>
 }
 
 fn filled(alloc: Global, star: u64, extents: &[Sized]) -> Result<List<Extent>, Stop>
-    ensures { Gives result (λ es. map extent_of es) (u.filled star extents.now) }
+    ensures { Gives result (λ es. es) (u.filled star extents.now) }
 {
     let mut all = List::new(alloc);
     match push_filled(&mut all, star, extents) {
@@ -240,7 +239,7 @@ fn filled(alloc: Global, star: u64, extents: &[Sized]) -> Result<List<Extent>, S
 
 // A shape that has room in an actual argument of so many storage units.
 fn fitting(long: u64, shape: List<Extent>) -> Result<List<Extent>, Stop>
-    ensures { Gives result (λ es. map extent_of es) (if nat_lt long (u.total (map extent_of shape)) then a.Fail (a.Undefined 3) else a.Done (map extent_of shape)) }
+    ensures { Gives result (λ es. es) (if nat_lt long (u.total shape) then a.Fail (a.Undefined 3) else a.Done shape) }
 {
     match total(long, shape.as_slice()) {
         Some(all) if all <= long => Ok(shape),
@@ -250,7 +249,7 @@ fn fitting(long: u64, shape: List<Extent>) -> Result<List<Extent>, Stop>
 
 #[tactic(auto, using(crate::proofs::Measures::no_room))]
 fn shape_in(alloc: Global, long: u64, extents: &[Sized]) -> Result<List<Extent>, Stop>
-    ensures { Gives result (λ es. map extent_of es) (b.shape_in long extents.now) }
+    ensures { Gives result (λ es. es) (b.shape_in long extents.now) }
 {
     match known(long, extents) {
         Some(known) => {
@@ -262,7 +261,7 @@ fn shape_in(alloc: Global, long: u64, extents: &[Sized]) -> Result<List<Extent>,
 }
 
 fn measured(alloc: Global, long: u64, pairs: &[Pair]) -> Result<List<Extent>, Stop>
-    ensures { Gives result (λ es. map extent_of es) (c.measured long pairs.now) }
+    ensures { Gives result (λ es. es) (c.measured long pairs.now) }
 {
     let extents = extents_of(alloc, pairs)?;
     shape_in(alloc, long, extents.as_slice())
@@ -270,7 +269,7 @@ fn measured(alloc: Global, long: u64, pairs: &[Pair]) -> Result<List<Extent>, St
 
 /// The shape of a dummy array whose bounds are these operands, the first lowest, and whose actual argument has so many storage units.
 pub fn shaped(alloc: Global, long: u64, operands: &[Operand]) -> Result<List<Extent>, Stop>
-    ensures { Gives result (λ es. map extent_of es) (c.shaped long (stack_of operands.now)) }
+    ensures { Gives result (λ es. es) (c.shaped long (stack_of operands.now)) }
 {
     let pairs = pairs_in(alloc, operands)?;
     measured(alloc, long, pairs.as_slice())

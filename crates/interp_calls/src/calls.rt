@@ -11,7 +11,6 @@ ghost use Rattle.f77_semantics.specs.Statements as s;
 ghost use Rattle.f77_semantics.specs.Units as r;
 ghost use Rattle.f77_semantics.specs.Values.{stored};
 ghost use Rattle.f77_values.specs.Tables.{Name};
-ghost use Rattle.interp_code.specs.Denoted.{step_of};
 ghost use Rattle.interp_code.specs.Steps as c;
 ghost use Rattle.interp_steps.specs.Frames.{interval_of, frame_of};
 ghost use Rattle.interp_steps.specs.Stacks.{stack_of};
@@ -34,12 +33,12 @@ use super::shapes::fix_shape;
 use f77_tree::Value;
 use interp_code::Step;
 use interp_lower::{DummyArray, Piece};
-use interp_steps::{Frame, Interval, Machine, Operand, Stop, pop_passed, step};
+use interp_steps::{Frame, Interval, Operand, State, Stop, pop_passed, step};
 use interp_turns::{Here, Point, Turn, finish, tested};
 use rn_ports::Sink;
 use std::alloc::Global;
 
-/// Calls the unit at a place, where calls may go so deep. What it prints is sent, but for a part where the run is broken off.
+/// Calls the unit at this place; at most `depth` calls may stand in each other. What it prints is sent, but for a part where the run is broken off.
 #[cycle(runs)]
 pub fn call<'p, 'u, O: Sink>(
     alloc: Global,
@@ -47,27 +46,19 @@ pub fn call<'p, 'u, O: Sink>(
     at: usize,
     actuals: &[Interval<'p>],
     depth: usize,
-    machine: &mut Machine,
+    state: &mut State,
     out: &mut O,
 ) -> Result<Option<Value>, Halt>
-    requires sent { machine.old.out.items ≡ [] }
-    ensures run { (all : List program.Routine) → (units : r.Program) → Represents procedures.now all units → (q : Name) → slice_get all at ≡ Some (units q) → Sends result (λ v. a.Fine (option_map stored v)) (world_of machine.old) (world_of machine.new) (O.written out.old) (O.written out.new) (r.meaning units depth q (map interval_of actuals.now)) }
-    ensures sent { IsWhole result → machine.new.out.items ≡ [] }
+    requires sent { state.old.out.items ≡ [] }
+    ensures run { (all : List program.Routine) → (units : r.Program) → Represents procedures.now all units → (q : Name) → slice_get all at ≡ Some (units q) → Sends result (λ v. a.Fine (option_map stored v)) (world_of state.old) (world_of state.new) (O.written out.old) (O.written out.new) (r.meaning units depth q (map interval_of actuals.now)) }
+    ensures sent { IsWhole result → state.new.out.items ≡ [] }
     ensures cause { HasCause (O.faults out.old) (O.faults out.new) (result ≡ Err Halt.WriteFault) }
 {
     if depth == 0 {
         return Err(Halt::Stop(Stop::Stuck));
     }
     match procedures.get(at) {
-        Some(procedure) => run(
-            alloc,
-            procedures,
-            procedure,
-            actuals,
-            depth - 1,
-            machine,
-            out,
-        ),
+        Some(procedure) => run(alloc, procedures, procedure, actuals, depth - 1, state, out),
         None => Err(Halt::Stop(Stop::Stuck)),
     }
 }
@@ -80,19 +71,17 @@ fn run<'p, 'u, O: Sink>(
     procedure: &'p Procedure<'u>,
     actuals: &[Interval<'p>],
     depth: usize,
-    machine: &mut Machine,
+    state: &mut State,
     out: &mut O,
 ) -> Result<Option<Value>, Halt>
-    requires sent { machine.old.out.items ≡ [] }
-    ensures run { (units : r.Program) → (u : program.Routine) → IsOf procedures.now procedure.now units u → Sends result (λ v. a.Fine (option_map stored v)) (world_of machine.old) (world_of machine.new) (O.written out.old) (O.written out.new) (r.run_unit (handler units depth u) u (map interval_of actuals.now)) }
-    ensures sent { IsWhole result → machine.new.out.items ≡ [] }
+    requires sent { state.old.out.items ≡ [] }
+    ensures run { (units : r.Program) → (u : program.Routine) → IsOf procedures.now procedure.now units u → Sends result (λ v. a.Fine (option_map stored v)) (world_of state.old) (world_of state.new) (O.written out.old) (O.written out.new) (r.run_unit (handler units depth u) u (map interval_of actuals.now)) }
+    ensures sent { IsWhole result → state.new.out.items ≡ [] }
     ensures cause { HasCause (O.faults out.old) (O.faults out.new) (result ≡ Err Halt.WriteFault) }
 {
-    clear(procedure, machine);
+    clear(procedure, state);
     let mut frame = entered(alloc, procedure, actuals)?;
-    run_entered(
-        alloc, procedures, procedure, depth, &mut frame, machine, out,
-    )
+    run_entered(alloc, procedures, procedure, depth, &mut frame, state, out)
 }
 
 // The run of a unit from its entry on.
@@ -103,16 +92,16 @@ fn run_entered<'p, 'u, O: Sink>(
     procedure: &'p Procedure<'u>,
     depth: usize,
     frame: &mut Frame<'p>,
-    machine: &mut Machine,
+    state: &mut State,
     out: &mut O,
 ) -> Result<Option<Value>, Halt>
-    requires sent { machine.old.out.items ≡ [] }
-    ensures run { (units : r.Program) → (u : program.Routine) → IsOf procedures.now procedure.now units u → Sends result (λ v. a.Fine (option_map stored v)) (world_of machine.old) (world_of machine.new) (O.written out.old) (O.written out.new) (λ v. a.then_do (a.play (handler units depth u) (r.entry (frame_of frame.old) u.dummy_arrays) v) (λ f w. t.run_from (handler units depth u) (s.turn u f) (r.beginning u) w)) }
-    ensures sent { IsWhole result → machine.new.out.items ≡ [] }
+    requires sent { state.old.out.items ≡ [] }
+    ensures run { (units : r.Program) → (u : program.Routine) → IsOf procedures.now procedure.now units u → Sends result (λ v. a.Fine (option_map stored v)) (world_of state.old) (world_of state.new) (O.written out.old) (O.written out.new) (λ v. a.then_do (a.play (handler units depth u) (r.entry (frame_of frame.old) u.dummy_arrays) v) (λ f w. t.run_from (handler units depth u) (s.turn u f) (r.beginning u) w)) }
+    ensures sent { IsWhole result → state.new.out.items ≡ [] }
     ensures cause { HasCause (O.faults out.old) (O.faults out.new) (result ≡ Err Halt.WriteFault) }
 {
-    match dimension(alloc, procedures, procedure, depth, frame, machine, out) {
-        Ok(()) => run_turns(alloc, procedures, procedure, frame, depth, machine, out),
+    match dimension(alloc, procedures, procedure, depth, frame, state, out) {
+        Ok(()) => run_turns(alloc, procedures, procedure, frame, depth, state, out),
         Err(halt) => Err(halt),
     }
 }
@@ -125,18 +114,18 @@ fn dimension<'p, 'u, O: Sink>(
     procedure: &'p Procedure<'u>,
     depth: usize,
     frame: &mut Frame<'p>,
-    machine: &mut Machine,
+    state: &mut State,
     out: &mut O,
 ) -> Result<(), Halt>
-    requires sent { machine.old.out.items ≡ [] }
-    ensures run { (units : r.Program) → (u : program.Routine) → IsOf procedures.now procedure.now units u → Sends result (λ _. a.Fine (frame_of frame.new)) (world_of machine.old) (world_of machine.new) (O.written out.old) (O.written out.new) (a.play (handler units depth u) (r.entry (frame_of frame.old) u.dummy_arrays)) }
-    ensures sent { IsWhole result → machine.new.out.items ≡ [] }
+    requires sent { state.old.out.items ≡ [] }
+    ensures run { (units : r.Program) → (u : program.Routine) → IsOf procedures.now procedure.now units u → Sends result (λ _. a.Fine (frame_of frame.new)) (world_of state.old) (world_of state.new) (O.written out.old) (O.written out.new) (a.play (handler units depth u) (r.entry (frame_of frame.old) u.dummy_arrays)) }
+    ensures sent { IsWhole result → state.new.out.items ≡ [] }
     ensures cause { HasCause (O.faults out.old) (O.faults out.new) (result ≡ Err Halt.WriteFault) }
 {
     let mut stack = Vec::new(alloc);
     for array in procedure.routine.dummy_arrays.as_slice() {
         match dimension_one(
-            alloc, procedures, procedure, depth, array, frame, &mut stack, machine, out,
+            alloc, procedures, procedure, depth, array, frame, &mut stack, state, out,
         ) {
             Ok(()) => {}
             Err(halt) => return Err(halt),
@@ -155,18 +144,18 @@ fn dimension_one<'p, 'u, O: Sink>(
     array: &'p DummyArray,
     frame: &mut Frame<'p>,
     stack: &mut Vec<Operand<'p>>,
-    machine: &mut Machine,
+    state: &mut State,
     out: &mut O,
 ) -> Result<(), Halt>
-    requires sent { machine.old.out.items ≡ [] }
-    ensures run { (units : r.Program) → (u : program.Routine) → IsOf procedures.now procedure.now units u → Sends result (λ _. a.Fine (frame_of frame.new)) (world_of machine.old) (world_of machine.new) (O.written out.old) (O.written out.new) (a.play (handler units depth u) (a.and_then (c.steps (frame_of frame.old) (map step_of array.now.bounds) []) (fixed (frame_of frame.old) array.now.dummy))) }
-    ensures sent { IsWhole result → machine.new.out.items ≡ [] }
+    requires sent { state.old.out.items ≡ [] }
+    ensures run { (units : r.Program) → (u : program.Routine) → IsOf procedures.now procedure.now units u → Sends result (λ _. a.Fine (frame_of frame.new)) (world_of state.old) (world_of state.new) (O.written out.old) (O.written out.new) (a.play (handler units depth u) (a.and_then (c.steps (frame_of frame.old) array.now.bounds []) (fixed (frame_of frame.old) array.now.dummy))) }
+    ensures sent { IsWhole result → state.new.out.items ≡ [] }
     ensures cause { HasCause (O.faults out.old) (O.faults out.new) (result ≡ Err Halt.WriteFault) }
 {
     stack.clear();
     let bounds = array.bounds.as_slice();
     match run_steps(
-        alloc, procedures, procedure, frame, bounds, depth, stack, machine, out,
+        alloc, procedures, procedure, frame, bounds, depth, stack, state, out,
     ) {
         Ok(()) => halting(fix_shape(alloc, frame, array.dummy, stack)),
         Err(halt) => Err(halt),
@@ -181,27 +170,27 @@ fn run_turns<'p, 'u, O: Sink>(
     procedure: &'p Procedure<'u>,
     frame: &Frame<'p>,
     depth: usize,
-    machine: &mut Machine,
+    state: &mut State,
     out: &mut O,
 ) -> Result<Option<Value>, Halt>
-    requires sent { machine.old.out.items ≡ [] }
-    ensures run { (units : r.Program) → (u : program.Routine) → IsOf procedures.now procedure.now units u → Sends result (λ v. a.Fine (option_map stored v)) (world_of machine.old) (world_of machine.new) (O.written out.old) (O.written out.new) (t.run_from (handler units depth u) (s.turn u (frame_of frame.now)) (r.beginning u)) }
-    ensures sent { IsWhole result → machine.new.out.items ≡ [] }
+    requires sent { state.old.out.items ≡ [] }
+    ensures run { (units : r.Program) → (u : program.Routine) → IsOf procedures.now procedure.now units u → Sends result (λ v. a.Fine (option_map stored v)) (world_of state.old) (world_of state.new) (O.written out.old) (O.written out.new) (t.run_from (handler units depth u) (s.turn u (frame_of frame.now)) (r.beginning u)) }
+    ensures sent { IsWhole result → state.new.out.items ≡ [] }
     ensures cause { HasCause (O.faults out.old) (O.faults out.new) (result ≡ Err Halt.WriteFault) }
 {
     let first = procedure.control.first() as usize;
     let mut here = Here::new(alloc, first, procedure.control.statements.len())?;
     let mut stack = Vec::new(alloc);
-    let mut more = machine.left;
+    let mut more = state.left;
     'turns: loop {
-        match machine.tick() {
+        match state.tick() {
             Ok(()) => {}
             Err(stop) => return Err(Halt::Stop(stop)),
         }
         let taken = take_turn(
-            alloc, procedures, procedure, frame, depth, &mut here, &mut stack, machine, out,
+            alloc, procedures, procedure, frame, depth, &mut here, &mut stack, state, out,
         );
-        match send_after(taken, machine, out) {
+        match send_after(taken, state, out) {
             Ok(Turn::Again) => {}
             Ok(Turn::Result(answer)) => return Ok(answer),
             Err(halt) => return Err(halt),
@@ -222,26 +211,26 @@ fn take_turn<'p, 'u, O: Sink>(
     depth: usize,
     here: &mut Here,
     stack: &mut Vec<Operand<'p>>,
-    machine: &mut Machine,
+    state: &mut State,
     out: &mut O,
 ) -> Result<Turn, Halt>
     requires stands { Stands (length procedure.now.control.statements.now) here.old }
-    requires sent { machine.old.out.items ≡ [] }
-    ensures turn { (units : r.Program) → (u : program.Routine) → IsOf procedures.now procedure.now units u → Sends result (λ y. a.Fine (after_of y here.new)) (world_of machine.old) (world_of machine.new) (O.written out.old) (O.written out.new) (a.play (handler units depth u) (s.turn u (frame_of frame.now) (here_of here.old))) }
+    requires sent { state.old.out.items ≡ [] }
+    ensures turn { (units : r.Program) → (u : program.Routine) → IsOf procedures.now procedure.now units u → Sends result (λ y. a.Fine (after_of y here.new)) (world_of state.old) (world_of state.new) (O.written out.old) (O.written out.new) (a.play (handler units depth u) (s.turn u (frame_of frame.now) (here_of here.old))) }
     ensures stands { OnOk result (Stands (length procedure.now.control.statements.now) here.new) }
     ensures cause { HasCause (O.faults out.old) (O.faults out.new) (result ≡ Err Halt.WriteFault) }
 {
     match here.point {
         Point::At(k) => match piece(procedure, k) {
             Some(piece) => perform(
-                alloc, procedures, procedure, frame, piece, k, depth, here, stack, machine, out,
+                alloc, procedures, procedure, frame, piece, k, depth, here, stack, state, out,
             ),
             None => Err(Halt::Stop(Stop::Stuck)),
         },
         Point::Inside(k) => match inner_piece(procedure, k) {
             Some(inner) => {
                 let turn = perform(
-                    alloc, procedures, procedure, frame, inner, k, depth, here, stack, machine, out,
+                    alloc, procedures, procedure, frame, inner, k, depth, here, stack, state, out,
                 );
                 turn
             }
@@ -251,7 +240,7 @@ fn take_turn<'p, 'u, O: Sink>(
             tested(&procedure.control, k, here);
             Ok(Turn::Again)
         }
-        Point::Advance(k) => halting(advance_at(alloc, procedure, frame, k, here, machine)),
+        Point::Advance(k) => halting(advance_at(alloc, procedure, frame, k, here, state)),
     }
 }
 
@@ -267,20 +256,20 @@ fn perform<'p, 'u, O: Sink>(
     depth: usize,
     here: &mut Here,
     stack: &mut Vec<Operand<'p>>,
-    machine: &mut Machine,
+    state: &mut State,
     out: &mut O,
 ) -> Result<Turn, Halt>
     requires statement { k < length procedure.now.control.statements.now }
     requires stands { Stands (length procedure.now.control.statements.now) here.old }
-    requires sent { machine.old.out.items ≡ [] }
-    ensures turn { (units : r.Program) → (u : program.Routine) → IsOf procedures.now procedure.now units u → (x : program.Statement) → IsPiece piece.now x → Sends result (λ y. a.Fine (after_of y here.new)) (world_of machine.old) (world_of machine.new) (O.written out.old) (O.written out.new) (a.play (handler units depth u) (s.perform u (frame_of frame.now) (here_of here.old) k x)) }
+    requires sent { state.old.out.items ≡ [] }
+    ensures turn { (units : r.Program) → (u : program.Routine) → IsOf procedures.now procedure.now units u → (x : program.Statement) → IsPiece piece.now x → Sends result (λ y. a.Fine (after_of y here.new)) (world_of state.old) (world_of state.new) (O.written out.old) (O.written out.new) (a.play (handler units depth u) (s.perform u (frame_of frame.now) (here_of here.old) k x)) }
     ensures stands { OnOk result (Stands (length procedure.now.control.statements.now) here.new) }
     ensures cause { HasCause (O.faults out.old) (O.faults out.new) (result ≡ Err Halt.WriteFault) }
 {
     stack.clear();
     let steps = piece.steps.as_slice();
     match run_steps(
-        alloc, procedures, procedure, frame, steps, depth, stack, machine, out,
+        alloc, procedures, procedure, frame, steps, depth, stack, state, out,
     ) {
         Ok(()) => {
             let variable = variable(&procedure.routine);
@@ -294,7 +283,7 @@ fn perform<'p, 'u, O: Sink>(
                 &piece.ending,
                 operands,
                 here,
-                machine,
+                state,
             ))
         }
         Err(halt) => Err(halt),
@@ -311,17 +300,17 @@ fn run_steps<'p, 'u, O: Sink>(
     steps: &'p [Step],
     depth: usize,
     stack: &mut Vec<Operand<'p>>,
-    machine: &mut Machine,
+    state: &mut State,
     out: &mut O,
 ) -> Result<(), Halt>
-    requires sent { machine.old.out.items ≡ [] }
-    ensures run { (units : r.Program) → (u : program.Routine) → IsOf procedures.now procedure.now units u → Sends result (λ _. a.Fine (stack_of stack.new.items)) (world_of machine.old) (world_of machine.new) (O.written out.old) (O.written out.new) (a.play (handler units depth u) (c.steps (frame_of frame.now) (map step_of steps.now) (stack_of stack.old.items))) }
-    ensures sent { IsWhole result → machine.new.out.items ≡ [] }
+    requires sent { state.old.out.items ≡ [] }
+    ensures run { (units : r.Program) → (u : program.Routine) → IsOf procedures.now procedure.now units u → Sends result (λ _. a.Fine (stack_of stack.new.items)) (world_of state.old) (world_of state.new) (O.written out.old) (O.written out.new) (a.play (handler units depth u) (c.steps (frame_of frame.now) steps.now (stack_of stack.old.items))) }
+    ensures sent { IsWhole result → state.new.out.items ≡ [] }
     ensures cause { HasCause (O.faults out.old) (O.faults out.new) (result ≡ Err Halt.WriteFault) }
 {
     for one in steps {
         match take_step(
-            alloc, procedures, procedure, frame, one, depth, stack, machine, out,
+            alloc, procedures, procedure, frame, one, depth, stack, state, out,
         ) {
             Ok(()) => {}
             Err(halt) => return Err(halt),
@@ -339,28 +328,28 @@ fn take_step<'p, 'u, O: Sink>(
     one: &'p Step,
     depth: usize,
     stack: &mut Vec<Operand<'p>>,
-    machine: &mut Machine,
+    state: &mut State,
     out: &mut O,
 ) -> Result<(), Halt>
-    requires sent { machine.old.out.items ≡ [] }
-    ensures run { (units : r.Program) → (u : program.Routine) → IsOf procedures.now procedure.now units u → Sends result (λ _. a.Fine (stack_of stack.new.items)) (world_of machine.old) (world_of machine.new) (O.written out.old) (O.written out.new) (a.play (handler units depth u) (c.step (frame_of frame.now) (step_of one.now) (stack_of stack.old.items))) }
-    ensures sent { IsWhole result → machine.new.out.items ≡ [] }
+    requires sent { state.old.out.items ≡ [] }
+    ensures run { (units : r.Program) → (u : program.Routine) → IsOf procedures.now procedure.now units u → Sends result (λ _. a.Fine (stack_of stack.new.items)) (world_of state.old) (world_of state.new) (O.written out.old) (O.written out.new) (a.play (handler units depth u) (c.step (frame_of frame.now) one.now (stack_of stack.old.items))) }
+    ensures sent { IsWhole result → state.new.out.items ≡ [] }
     ensures cause { HasCause (O.faults out.old) (O.faults out.new) (result ≡ Err Halt.WriteFault) }
 {
     match one {
         Step::Refer(site) => {
             let answer = call_at(
-                alloc, procedures, procedure, *site, depth, stack, machine, out,
+                alloc, procedures, procedure, *site, depth, stack, state, out,
             );
             referred(answer, stack)
         }
         Step::Perform(site) => {
             let end = call_at(
-                alloc, procedures, procedure, *site, depth, stack, machine, out,
+                alloc, procedures, procedure, *site, depth, stack, state, out,
             );
             performed(end)
         }
-        _ => halting(step(alloc, frame, one, stack, machine)),
+        _ => halting(step(alloc, frame, one, stack, state)),
     }
 }
 
@@ -373,25 +362,17 @@ fn call_at<'p, 'u, O: Sink>(
     site: usize,
     depth: usize,
     stack: &mut Vec<Operand<'p>>,
-    machine: &mut Machine,
+    state: &mut State,
     out: &mut O,
 ) -> Result<Option<Value>, Halt>
-    requires sent { machine.old.out.items ≡ [] }
-    ensures run { (units : r.Program) → (u : program.Routine) → IsOf procedures.now procedure.now units u → Answers result (handler units depth u) site (stack_of stack.old.items) (stack_of stack.new.items) (world_of machine.old) (world_of machine.new) (O.written out.old) (O.written out.new) }
-    ensures sent { IsWhole result → machine.new.out.items ≡ [] }
+    requires sent { state.old.out.items ≡ [] }
+    ensures run { (units : r.Program) → (u : program.Routine) → IsOf procedures.now procedure.now units u → Answers result (handler units depth u) site (stack_of stack.old.items) (stack_of stack.new.items) (world_of state.old) (world_of state.new) (O.written out.old) (O.written out.new) }
+    ensures sent { IsWhole result → state.new.out.items ≡ [] }
     ensures cause { HasCause (O.faults out.old) (O.faults out.new) (result ≡ Err Halt.WriteFault) }
 {
     let at = place(procedure, site);
     match pop_passed(alloc, stack)? {
-        Some(actuals) => call(
-            alloc,
-            procedures,
-            at,
-            actuals.as_slice(),
-            depth,
-            machine,
-            out,
-        ),
+        Some(actuals) => call(alloc, procedures, at, actuals.as_slice(), depth, state, out),
         None => Err(Halt::Stop(Stop::Stuck)),
     }
 }

@@ -1,4 +1,4 @@
-//! Entries of units.
+//! The entry of a unit: its local cells are cleared, and its dummies stand for the actual arguments.
 ghost use Rattle.std.specs.Prelude.{◌≡◌, ℕ, map, IfOk};
 ghost use Rattle.f77_semantics.specs.Program as program;
 ghost use Rattle.f77_semantics.specs.Expressions as ex;
@@ -11,7 +11,7 @@ ghost use Rattle.interp_calls.specs.Procedures as p;
 ghost use Rattle.interp_cells.specs.Rows as rows;
 
 use super::procedure::Procedure;
-use interp_steps::{Frame, Interval, Machine};
+use interp_steps::{Frame, Interval, State};
 use std::alloc::{AllocError, Global};
 
 fn is_marked(marks: &[bool], at: usize) -> bool
@@ -69,11 +69,11 @@ pub fn entered<'p, 'u>(
 }
 
 /// Makes the cells of a unit undefined that it doesn't keep.
-pub fn clear(procedure: &Procedure, machine: &mut Machine)
-    ensures cleared { (find : Name → ℕ) → (u : program.Routine) → p.IsUnit find procedure.now u → world_of machine.new ≡ r.cleared u (world_of machine.old) }
-    ensures printed { machine.new.out ≡ machine.old.out }
+pub fn clear(procedure: &Procedure, state: &mut State)
+    ensures cleared { (find : Name → ℕ) → (u : program.Routine) → p.IsUnit find procedure.now u → world_of state.new ≡ r.cleared u (world_of state.old) }
+    ensures printed { state.new.out ≡ state.old.out }
 {
-    machine
+    state
         .storage
         .clear(&procedure.routine.name, procedure.kept.as_slice());
 }

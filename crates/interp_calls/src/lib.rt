@@ -2,7 +2,7 @@
 //!
 //! The cycle of the interpreter: a call looks a procedure up by its place, the run of a unit makes its cells
 //! undefined, evaluates the bounds of its dummy arrays and takes turns, a turn runs the code of a statement and
-//! then its ending, and an operation may call.
+//! then its ending, and a step may call.
 //!
 //! - Each part says that it does what playing its acts says where calls are answered by `meaning` at the depth that
 //!   is left, so one part's contract is put into the next by the lemmas of `interp_steps`; a callee's own contract

@@ -12,10 +12,11 @@ ghost use Rattle.interp_lower.specs.Units.{StandsFor};
 ghost use Rattle.interp_calls.specs.Procedures as p;
 
 use super::procedure::Procedure;
+use f77_semantics::Base;
 use f77_tree::Ty;
-use interp_code::{Base, Ending};
+use interp_code::Ending;
 use interp_lower::{Line, Piece, Routine};
-use interp_steps::{Frame, Machine, Stop};
+use interp_steps::{Frame, State, Stop};
 use interp_turns::{Here, Turn, advance};
 use std::alloc::Global;
 
@@ -70,16 +71,16 @@ pub fn advance_at<'p, 'u>(
     frame: &Frame<'p>,
     k: usize,
     here: &mut Here,
-    machine: &mut Machine,
+    state: &mut State,
 ) -> Result<Turn, Stop>
     requires stands { Stands (length procedure.now.control.statements.now) here.old }
-    ensures turn { (find : Name → ℕ) → (u : program.Routine) → p.IsUnit find procedure.now u → Turns result here.new machine.old machine.new (s.advance u (frame_of frame.now) (here_of here.old) k (s.statement u k)) }
+    ensures turn { (find : Name → ℕ) → (u : program.Routine) → p.IsUnit find procedure.now u → Turns result here.new state.old state.new (s.advance u (frame_of frame.now) (here_of here.old) k (s.statement u k)) }
     ensures stands { OnOk result (Stands (length procedure.now.control.statements.now) here.new) }
 {
     match piece(procedure, k) {
         Some(piece) => match &piece.ending {
             Ending::Count(base) => {
-                advance(alloc, &procedure.control, frame, base, k, here, machine)
+                advance(alloc, &procedure.control, frame, base, k, here, state)
             }
             _ => Err(Stop::Stuck),
         },

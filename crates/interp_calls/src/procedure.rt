@@ -1,4 +1,4 @@
-//! Units for runs.
+//! A unit for its runs: its statements and data, where control goes, which cells it keeps, and where its callees stand.
 ghost use Rattle.std.specs.Prelude.{◌≡◌};
 ghost use Rattle.interp_calls.specs.Procedures as p;
 

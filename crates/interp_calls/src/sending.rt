@@ -10,7 +10,7 @@ ghost use Rattle.interp_calls.specs.Sending as spec;
 ghost use Rattle.interp_calls.specs.Sending.{nothing, IsWhole, Sends};
 
 use super::halt::Halt;
-use interp_steps::{Machine, Stop};
+use interp_steps::{State, Stop};
 use interp_turns::Turn;
 use rn_ports::{Sink, write_whole};
 
@@ -25,17 +25,17 @@ pub fn halting<T: Drop>(end: Result<T, Stop>) -> Result<T, Halt>
 }
 
 // Sends what was printed to the sink, and keeps it no longer.
-fn send<O: Sink>(machine: &mut Machine, out: &mut O) -> Result<(), Halt>
-    ensures run { Sends result (λ _. nothing) (world_of machine.old) (world_of machine.new) (O.written out.old) (O.written out.new) nothing }
-    ensures sent { IsWhole result → machine.new.out.items ≡ [] }
+fn send<O: Sink>(state: &mut State, out: &mut O) -> Result<(), Halt>
+    ensures run { Sends result (λ _. nothing) (world_of state.old) (world_of state.new) (O.written out.old) (O.written out.new) nothing }
+    ensures sent { IsWhole result → state.new.out.items ≡ [] }
     ensures cause { HasCause (O.faults out.old) (O.faults out.new) (result ≡ Err Halt.WriteFault) }
 {
-    if machine.out.is_empty() {
+    if state.out.is_empty() {
         return Ok(());
     }
-    match write_whole(out, machine.out.as_slice()) {
+    match write_whole(out, state.out.as_slice()) {
         Ok(()) => {
-            machine.out.clear();
+            state.out.clear();
             Ok(())
         }
         Err(_) => Err(Halt::WriteFault),
@@ -52,20 +52,20 @@ fn is_broken(halt: Halt) -> bool
     }
 }
 
-/// Sends what was printed before a turn ended so. Where memory was wanting in the turn, its output is left.
+/// Sends what a turn printed. Where memory ran out in the turn, or the sink failed, its output is left.
 pub fn send_after<O: Sink>(
     taken: Result<Turn, Halt>,
-    machine: &mut Machine,
+    state: &mut State,
     out: &mut O,
 ) -> Result<Turn, Halt>
-    ensures run { (view : Turns → t.After s.Here) → (run : a.World → a.Outcome (t.After s.Here)) → (w : a.World) → (before : Option (List ℕ)) → Sends taken (λ y. a.Fine (view y)) w (world_of machine.old) before (O.written out.old) run → Sends result (λ y. a.Fine (view y)) w (world_of machine.new) before (O.written out.new) run }
-    ensures sent { IsWhole result → machine.new.out.items ≡ [] }
+    ensures run { (view : Turns → t.After s.Here) → (run : a.World → a.Outcome (t.After s.Here)) → (w : a.World) → (before : Option (List ℕ)) → Sends taken (λ y. a.Fine (view y)) w (world_of state.old) before (O.written out.old) run → Sends result (λ y. a.Fine (view y)) w (world_of state.new) before (O.written out.new) run }
+    ensures sent { IsWhole result → state.new.out.items ≡ [] }
     ensures same { IfOk result (λ turn. taken ≡ Ok turn) }
     ensures fault { result ≡ Err Halt.WriteFault → (taken ≡ Err Halt.WriteFault) ⊎ Rose (O.faults out.old) (O.faults out.new) }
     ensures later { O.faults out.old ≤ O.faults out.new }
 {
     match taken {
-        Ok(turn) => match send(machine, out) {
+        Ok(turn) => match send(state, out) {
             Ok(()) => Ok(turn),
             Err(halt) => Err(halt),
         },
@@ -73,7 +73,7 @@ pub fn send_after<O: Sink>(
             if is_broken(halt) {
                 return Err(halt);
             }
-            match send(machine, out) {
+            match send(state, out) {
                 Ok(()) => Err(halt),
                 Err(fault) => Err(fault),
             }

@@ -1,15 +1,14 @@
-//! The shapes of an activation.
+//! The shapes of an activation's dummy arrays.
 ghost use Rattle.std.specs.Prelude.{◌≡◌, ℕ, ◌<◌, length, map, OnOk};
 ghost use Rattle.f77_semantics.specs.Units.{with_shape};
-ghost use Rattle.interp_code.specs.Denoted.{extent_of};
 ghost use Rattle.interp_steps.specs.Frames.{frame_of, shape_at};
 ghost use Rattle.interp_steps.specs.Stacks.{stack_of};
 ghost use Rattle.interp_steps.specs.Stops.{Gives};
 ghost use Rattle.interp_calls.specs.Entries as e;
 
 use super::bounds::shaped;
+use f77_semantics::Extent;
 use f77_tree::List;
-use interp_code::Extent;
 use interp_steps::{Frame, Operand, Stop};
 use std::alloc::{AllocError, Global};
 
@@ -24,7 +23,7 @@ fn make_room(shapes: &mut Vec<Option<List<Extent>>>, dummy: usize) -> Result<(),
 }
 
 fn set_shape(frame: &mut Frame, dummy: usize, shape: List<Extent>) -> Result<(), AllocError>
-    ensures { OnOk result (frame_of frame.new ≡ with_shape dummy (map extent_of shape) (frame_of frame.old)) }
+    ensures { OnOk result (frame_of frame.new ≡ with_shape dummy shape (frame_of frame.old)) }
 {
     make_room(&mut frame.shapes, dummy)?;
     frame.shapes[dummy] = Some(shape);

@@ -7,9 +7,9 @@ use Rattle.run_model.specs.Storage.{Loc, loc_eq, put_cell}
 use Rattle.f77_tree.specs.declared.unit.Value.{Value}
 use Rattle.f77_values.specs.Tables.{Name, name_eq}
 use Rattle.f77_semantics.specs.Values.{stored}
-use Rattle.interp_cells.specs.declared.held.Seat.{Seat}
+use Rattle.interp_cells.specs.declared.unit_cells.Seat.{Seat}
 use Rattle.interp_cells.specs.declared.storage.Storage.{Storage}
-use Rattle.interp_cells.specs.Held.{same_seat, local_cell, fresh_cell}
+use Rattle.interp_cells.specs.UnitCells.{same_seat, local_cell, fresh_cell}
 use Rattle.interp_cells.specs.Cells.{found, cells_of}
 
 -- two facts of an answer that is Ok

@@ -6,7 +6,7 @@ use Rattle.f77_tree.specs.declared.unit.Value.{Value}
 use Rattle.f77_values.specs.Tables.{name_eq}
 use Rattle.f77_semantics.specs.Values.{stored}
 use Rattle.interp_cells.specs.declared.storage.Storage.{Storage}
-use Rattle.interp_cells.specs.Held.{block_cell, local_cell, fresh_cell}
+use Rattle.interp_cells.specs.UnitCells.{block_cell, local_cell, fresh_cell}
 
 -- An actual argument without a location has one cell.
 abbrev pub found : Storage → run.Area → ℕ → Option Value

@@ -1,4 +1,4 @@
 pub mod Rows
 pub mod Spots
-pub mod Held
+pub mod UnitCells
 pub mod Cells

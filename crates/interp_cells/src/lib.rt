@@ -1,12 +1,12 @@
 //! The cells of a program that runs.
 #![tactic(auto)]
 
-mod held;
 mod row;
 mod spot;
 mod storage;
+mod unit_cells;
 
-pub use held::{Held, Seat};
 pub use row::Row;
 pub use spot::{Area, Spot};
 pub use storage::Storage;
+pub use unit_cells::{Seat, UnitCells};

@@ -8,9 +8,9 @@ ghost use Rattle.interp_cells.specs.Cells.{cells_of};
 ghost use Rattle.interp_cells.specs.Rows.{is_marked};
 ghost use Rattle.interp_cells.specs.Spots.{loc_of};
 
-use super::held::{Held, Seat, clear_unit, put_block, put_fresh, put_local};
 use super::row::Row;
 use super::spot::{Area, Spot};
+use super::unit_cells::{Seat, UnitCells, clear_unit, put_block, put_fresh, put_local};
 use f77_tree::{Name, Value};
 use indexmap::IndexMap;
 use std::alloc::{AllocError, Global};
@@ -19,7 +19,7 @@ use std::alloc::{AllocError, Global};
 #[derive(Drop)]
 pub struct Storage {
     commons: IndexMap<Name, Row>,
-    units: IndexMap<Name, Held>,
+    units: IndexMap<Name, UnitCells>,
 }
 
 impl Storage {

@@ -2,7 +2,8 @@
 use Rattle.std.proofs.Common.{◌≡◌, ℕ, suc, List, [], ◌∷◌, ◌++◌, Option, Some, None, refl, sym, ap, ◌∙◌, append-nil, flat_map}
 use Rattle.run_model.specs.Storage.{Interval}
 use Rattle.run_model.specs.Acts.{Act, Done, Fail, Stuck, and_then}
-use Rattle.f77_semantics.specs.Program.{Term, Literal, Text, Variable, Element, Whole, Reference, Apply, Paren, Negative, Plus, Not, Binary, NoTerm, Terms, End, ◌and◌, Array}
+use Rattle.f77_semantics.specs.Program.{Term, Literal, Text, Variable, Element, Whole, Reference, Apply, Paren, Negative, Plus, Not, Binary, NoTerm, Terms, End, ◌and◌}
+use Rattle.f77_semantics.specs.declared.storage.Array.{Array}
 use Rattle.f77_semantics.specs.Expressions.{Frame, value, values, actuals, fetch, scalar, element, at, sequence}
 use Rattle.f77_semantics.specs.Statements.{target, items, read_all}
 use Rattle.f77_tree.specs.declared.unit.Ty.{Ty}

@@ -2,7 +2,8 @@
 use Rattle.std.proofs.Common.{◌≡◌, ℕ, List, [], ◌∷◌, ◌++◌, Option, None, Some, ℤ, pos, flat_map, refl, sym, ap, ◌∙◌, append-nil}
 use Rattle.run_model.specs.Acts.{Act, Done, and_then}
 use Rattle.run_model.specs.Turns.{After}
-use Rattle.f77_semantics.specs.Program.{Base, Term, Terms, Statement, Assign, If, LogicalIf, ArithmeticIf, GoTo, ComputedGoTo, Do, Continue, Call, Return, Stop, Print, Read, NoStatement, Routine}
+use Rattle.f77_semantics.specs.Program.{Term, Terms, Statement, Assign, If, LogicalIf, ArithmeticIf, GoTo, ComputedGoTo, Do, Continue, Call, Return, Stop, Print, Read, NoStatement, Routine}
+use Rattle.f77_semantics.specs.declared.storage.Base.{Base}
 use Rattle.f77_tree.specs.declared.unit.Value.{Value}
 use Rattle.f77_tree.specs.declared.unit.Value.TheVariants.{Integer, Logical}
 use Rattle.f77_semantics.specs.Expressions.{Frame, value}

@@ -5,25 +5,14 @@ use Rattle.run_model.specs.Acts.{Act, Done, Fail, Ended, Undefined, Stuck, and_t
 use Rattle.run_model.specs.Turns.{After, Again}
 use Rattle.f77_tree.specs.declared.unit.Value.TheVariants.{Integer}
 use Rattle.f77_flow.specs.Graph.{At, Inside, Test}
-use Rattle.f77_semantics.specs.Program.{Base, Term, Statement, Assign, If, LogicalIf, ArithmeticIf, GoTo, ComputedGoTo, Do, Continue, Call, Return, Stop, Print, Read, NoStatement, Routine}
+use Rattle.f77_semantics.specs.Program.{Term, Statement, Assign, If, LogicalIf, ArithmeticIf, GoTo, ComputedGoTo, Do, Continue, Call, Return, Stop, Print, Read, NoStatement, Routine}
+use Rattle.f77_semantics.specs.declared.storage.Base.{Base}
 use Rattle.f77_semantics.specs.Expressions.{Frame, scalar, store}
 use Rattle.f77_semantics.specs.Statements.{Here, set_loop, as_number, as_truth, say_record, trips, by_sign, chosen, to, to_chosen, return}
 use Rattle.interp_code.specs.Steps.{Operands, Item, Place, operands_onto, said, Step, Push, Open, Perform, Number, steps}
 use Rattle.interp_code.specs.Code.{code, passes, aim, shows, reads}
-
-pub data Ending : Type 0 where
-  Store : Ending
-  Branch : (otherwise : ℕ) → Ending
-  Guard : Ending
-  Sign : (negative zero positive : ℕ) → Ending
-  Jump : ℕ → Ending
-  Choose : List ℕ → Ending
-  Count : (variable : Base) → Ending
-  Next : Ending
-  Leave : Ending
-  Halt : Ending
-  Write : Ending
-  Nowhere : Ending
+pub use Rattle.interp_code.specs.declared.ending.Ending.{Ending}
+pub use Rattle.interp_code.specs.declared.ending.Ending.TheVariants.{Store, Branch, Guard, Sign, Jump, Choose, Count, Next, Leave, Halt, Write, Nowhere}
 
 abbrev pub number_code : Term → List Step → List Step
 number_code e cs = code e (Number ∷ cs)

@@ -2,7 +2,8 @@
 use Rattle.std.specs.Prelude.{ℕ, List, [], ◌∷◌, Option, None, Some, ℤ, pos, nat_lt, if◌then◌else◌}
 use Rattle.run_model.specs.Acts.{Act, Done, Fail, Undefined, and_then}
 use Rattle.f77_tree.specs.declared.unit.Value.TheVariants.{Integer}
-use Rattle.f77_semantics.specs.Program.{Term, Bound, Extent}
+use Rattle.f77_semantics.specs.Program.{Term, Bound}
+use Rattle.f77_semantics.specs.declared.storage.Extent.{Extent}
 use Rattle.f77_semantics.specs.Units.{extents, filled, product, divide, total}
 use Rattle.interp_code.specs.Steps.{Operand, Operands, Item, Mark, Step, Push, Open, operands_onto, with_some}
 use Rattle.interp_code.specs.Endings.{number_code}

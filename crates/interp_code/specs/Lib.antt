@@ -2,5 +2,4 @@ pub mod Steps
 pub mod Code
 pub mod Endings
 pub mod Entries
-pub mod Denoted
 pub mod Laws

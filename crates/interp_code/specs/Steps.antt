@@ -1,4 +1,4 @@
--- Steps of expressions. Each takes operands from a stack and puts one there, so that an expression is a list of steps.
+-- What steps of expressions do. Each takes operands from a stack and puts one there, so that an expression is a list of steps.
 use Rattle.std.specs.Prelude.{ℕ, List, [], ◌∷◌, Option, Some, None, ℤ, map}
 use Rattle.run_model.specs.Storage.{Loc, Interval}
 use Rattle.run_model.specs.Acts.{Act, Done, Take, Ask, Fail, Stuck, and_then, Answer}
@@ -9,9 +9,13 @@ use Rattle.f77_tree.specs.declared.unit.Value.TheVariants.{Integer}
 use Rattle.f77_names.specs.declared.intrinsics.Intrinsic.{Intrinsic}
 use Rattle.f77_values.specs.Arithmetic.{negated, kept, denied}
 use Rattle.f77_semantics.specs.Values.{or_fail, operated, intrinsic}
-use Rattle.f77_semantics.specs.Program.{Base, Array, Text, Terms, End, ◌and◌}
+use Rattle.f77_semantics.specs.Program.{Text, Terms, End, ◌and◌}
+use Rattle.f77_semantics.specs.declared.storage.Base.{Base}
+use Rattle.f77_semantics.specs.declared.storage.Array.{Array}
 use Rattle.f77_semantics.specs.Expressions.{Frame, interval, at, rest, fetch, store, scalar, integers, element, sequence, resulting, fresh, value}
 use Rattle.f77_semantics.specs.Statements.{as_number, written}
+pub use Rattle.interp_code.specs.declared.step.Step.{Step}
+pub use Rattle.interp_code.specs.declared.step.Step.TheVariants.{Push, Show, Open, Fetch, Aim, Locate, Load, Pass, PassWhole, PassRest, Hold, Refer, Perform, Compute, Keep, Negate, Deny, Operate, Number, TakeIn, Wrong}
 
 -- what stands on the stack: a value, a location, an actual argument, a literal of PRINT, and what the operands of a list stand on
 pub data Operand : Type 0 where
@@ -20,29 +24,6 @@ pub data Operand : Type 0 where
   Passed : Interval → Operand
   Bytes : List ℕ → Operand
   Mark : Operand
-
-pub data Step : Type 0 where
-  Push : Value → Step
-  Show : List ℕ → Step
-  Open : Step  -- a list of operands begins
-  Fetch : Ty → Base → Step  -- the value of a variable
-  Aim : Base → Step  -- the location of a variable
-  Locate : Array → Step  -- the location of an element, whose subscripts end the stack
-  Load : Ty → Step  -- the value at a location
-  Pass : Base → Step
-  PassWhole : Array → Step
-  PassRest : Array → Step
-  Hold : (site position : ℕ) → Step  -- a value as an actual argument
-  Refer : (site : ℕ) → Step  -- a function is called
-  Perform : (site : ℕ) → Step  -- a subroutine is called
-  Compute : Intrinsic → Step
-  Keep : Step
-  Negate : Step
-  Deny : Step
-  Operate : Op → Step
-  Number : Step  -- the value is a number
-  TakeIn : Step  -- the next integer is read into a location
-  Wrong : Step
 
 abbrev pub Operands : Type 0
 Operands = List Operand

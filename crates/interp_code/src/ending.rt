@@ -1,6 +1,6 @@
 //! The ends of statements.
 
-use super::storage::Base;
+use f77_semantics::Base;
 use f77_tree::List;
 
 /// What a statement makes of the operands that its steps leave. Targets are numbers of statements.

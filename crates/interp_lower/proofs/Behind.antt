@@ -1,7 +1,8 @@
 -- The steps of a term don't look at those that follow.
 use Rattle.std.proofs.Common.{◌≡◌, ℕ, suc, List, [], ◌∷◌, ◌++◌, refl, ap, ◌∙◌}
 use Rattle.f77_semantics.specs.Program.{Term, Literal, Text, Variable, Element, Whole, Reference, Apply, Paren, Negative, Plus, Not, Binary, NoTerm, Terms, End, ◌and◌}
-use Rattle.interp_code.specs.Steps.{Step, Show, Open, Locate, Load, Pass, PassWhole, PassRest, Hold, Refer, Compute, Keep, Negate, Deny, Operate, TakeIn}
+use Rattle.interp_code.specs.declared.step.Step.{Step}
+use Rattle.interp_code.specs.declared.step.Step.TheVariants.{Compute, Deny, Hold, Keep, Load, Locate, Negate, Open, Operate, Pass, PassRest, PassWhole, Refer, Show, TakeIn}
 use Rattle.interp_code.specs.Code.{code, codes, passes, aim, shows, reads}
 
 mutual

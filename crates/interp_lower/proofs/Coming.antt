@@ -4,7 +4,8 @@ use Rattle.std.proofs.lemmas.List.{drop_more, drop_all}
 use Rattle.f77_tree.specs.declared.expr.Expr.{Expr}
 use Rattle.f77_values.specs.Tables.{Name}
 use Rattle.f77_semantics.specs.Terms.{Meant}
-use Rattle.interp_code.specs.Steps.{Step, TakeIn}
+use Rattle.interp_code.specs.declared.step.Step.{Step}
+use Rattle.interp_code.specs.declared.step.Step.TheVariants.{TakeIn}
 use Rattle.interp_lower.specs.Pieces.{site_count, site_total, value_steps, values_steps, actual_steps, actuals_steps, target_steps, targets_steps, item_steps, items_steps}
 use Rattle.interp_lower.proofs.Parts.{sites-none, sites-next, values-none, values-next, actuals-none, actuals-next}
 use Rattle.interp_lower.proofs.Items.{targets-none, targets-next, items-none, items-next}

@@ -8,10 +8,11 @@ use Rattle.f77_values.specs.Tables.{Name}
 use Rattle.f77_semantics.specs.Terms.{Meant}
 use Rattle.f77_semantics.specs.Resolve.{term, optional}
 use Rattle.f77_semantics.specs.Source.{bound_of, dummy_array}
-use Rattle.interp_code.specs.Steps.{Step, Number}
+use Rattle.interp_code.specs.declared.step.Step.{Step}
+use Rattle.interp_code.specs.declared.step.Step.TheVariants.{Number}
 use Rattle.interp_code.specs.Entries.{lower_code, upper_code, bounds_code}
 use Rattle.interp_lower.specs.declared.arrays.DummyArray.{DummyArray}
-use Rattle.interp_lower.specs.Pieces.{steps_of, value_steps, step_steps, upper_steps, bound_steps, bounds_steps}
+use Rattle.interp_lower.specs.Pieces.{value_steps, step_steps, upper_steps, bound_steps, bounds_steps}
 use Rattle.interp_lower.specs.Routines.{dummy_of, dummy_as}
 use Rattle.interp_lower.proofs.Behind.{code-append}
 use Rattle.interp_lower.proofs.Coming.{opened}
@@ -51,7 +52,7 @@ module _ (m : Name → Meant) where
   bounds_end bs i old whole h was = sym (append-nil old) ∙ (ap (λ xs. old ++ xs) (sym (ap (bounds_steps m) (drop_all i bs h) ∙ bounds-none)) ∙ was)
 
   -- one array more
-  pub array_more : (old new : List DummyArray) (made : DummyArray) (bounds : List (Option Expr × Option Expr)) (role : Role) → role ≡ Array bounds → steps_of made.bounds ≡ bounds_steps m bounds → new ≡ old ++ made ∷ []
+  pub array_more : (old new : List DummyArray) (made : DummyArray) (bounds : List (Option Expr × Option Expr)) (role : Role) → role ≡ Array bounds → made.bounds ≡ bounds_steps m bounds → new ≡ old ++ made ∷ []
       → map dummy_of new ≡ map dummy_of old ++ map dummy_as (dummy_array m made.dummy role)
   unfolding bounds_steps
   array_more old new made bounds role is steps more =

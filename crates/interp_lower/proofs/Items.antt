@@ -7,12 +7,14 @@ use Rattle.f77_tree.specs.declared.unit.Ty.{Ty}
 use Rattle.f77_tree.specs.declared.unit.Value.{Value}
 use Rattle.f77_names.specs.declared.intrinsics.Intrinsic.{Intrinsic}
 use Rattle.f77_values.specs.Tables.{Name}
-use Rattle.f77_semantics.specs.Program.{Base, Array, End, ◌and◌}
+use Rattle.f77_semantics.specs.Program.{End, ◌and◌}
+use Rattle.f77_semantics.specs.declared.storage.Base.{Base}
+use Rattle.f77_semantics.specs.declared.storage.Array.{Array}
+use Rattle.interp_code.specs.declared.step.Step.TheVariants.{Locate, Open, Show, TakeIn, Wrong}
 use Rattle.f77_semantics.specs.Terms.{Meant, Constant, Variable, AnArray, Function, AnIntrinsic, Unknown, Resolved, resolved, bare, applied, term_from, terms_of}
-use Rattle.interp_code.specs.Steps.{Show, Open, Locate, TakeIn, Wrong}
 use Rattle.interp_code.specs.Code.{code, aim, shows, reads}
 use Rattle.interp_lower.specs.Pieces.{aim_step, site_count, value_steps, values_steps, target_steps, listed_target_steps, targets_steps, item_steps, items_steps}
-use Rattle.interp_lower.proofs.Lists.{joined}
+use Rattle.interp_data.proofs.Lists.{joined}
 use Rattle.interp_lower.proofs.Behind.{codes-append, aim-append, shows-next}
 use Rattle.interp_lower.proofs.Layers.{resolved-Int, resolved-Truth, resolved-Text, resolved-Scalar, resolved-Apply, resolved-Paren, resolved-Neg, resolved-Plus, resolved-Not, resolved-Binary}
 use Rattle.interp_lower.proofs.Parts.{counts}

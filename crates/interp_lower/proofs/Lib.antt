@@ -1,6 +1,3 @@
-pub mod Lists
-pub mod Exact
-pub mod Telling
 pub mod Behind
 pub mod Layers
 pub mod Parts
@@ -8,8 +5,5 @@ pub mod Items
 pub mod Coming
 pub mod Preludes
 pub mod Dimensions
-pub mod Keeping
-pub mod Zipping
-pub mod Giving
 pub mod Lining
 pub mod Whole

@@ -8,12 +8,14 @@ use Rattle.f77_tree.specs.declared.unit.Value.{Value}
 use Rattle.f77_tree.specs.declared.unit.Value.TheVariants.{Integer, Logical}
 use Rattle.f77_names.specs.declared.intrinsics.Intrinsic.{Intrinsic}
 use Rattle.f77_values.specs.Tables.{Name}
-use Rattle.f77_semantics.specs.Program.{Base, Array, Term, End, ◌and◌}
+use Rattle.f77_semantics.specs.Program.{Term, End, ◌and◌}
+use Rattle.f77_semantics.specs.declared.storage.Base.{Base}
+use Rattle.f77_semantics.specs.declared.storage.Array.{Array}
+use Rattle.interp_code.specs.declared.step.Step.TheVariants.{Compute, Deny, Hold, Keep, Negate, Open, Operate, PassRest, Push, Refer, Wrong}
 use Rattle.f77_semantics.specs.Terms.{Meant, Constant, Variable, AnArray, Function, AnIntrinsic, Unknown, Resolved, resolved, bare, term_from, terms_of}
-use Rattle.interp_code.specs.Steps.{Push, Open, PassRest, Hold, Refer, Compute, Keep, Negate, Deny, Operate, Wrong}
 use Rattle.interp_code.specs.Code.{code, codes, passes}
 use Rattle.interp_lower.specs.Pieces.{bare_step, bare_actual_steps, element_steps, site_count, site_total, applied_sites, value_steps, values_steps, applied_steps, actual_steps, actuals_steps, listed_actual_steps}
-use Rattle.interp_lower.proofs.Lists.{joined}
+use Rattle.interp_data.proofs.Lists.{joined}
 use Rattle.interp_lower.proofs.Behind.{code-append, codes-append, passes-append, passes-next}
 use Rattle.interp_lower.proofs.Layers.{resolved-Int, resolved-Truth, resolved-Text, resolved-Scalar, resolved-Apply, resolved-Paren, resolved-Neg, resolved-Plus, resolved-Not, resolved-Binary}
 

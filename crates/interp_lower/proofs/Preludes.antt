@@ -2,19 +2,17 @@
 use Rattle.std.proofs.Common.{◌≡◌, ℕ, suc, ◌+◌, List, [], ◌∷◌, ◌++◌, Option, Some, None, refl, sym, ap, ◌∙◌, append_assoc}
 use Rattle.f77_tree.specs.declared.expr.Expr.{Expr}
 use Rattle.f77_values.specs.Tables.{Name}
-use Rattle.f77_semantics.specs.Program.{Base, If, Assign, LogicalIf, ArithmeticIf, ComputedGoTo, Do, Call, Print, Read, Statement}
+use Rattle.f77_semantics.specs.Program.{If, Assign, LogicalIf, ArithmeticIf, ComputedGoTo, Do, Call, Print, Read, Statement}
+use Rattle.f77_semantics.specs.declared.storage.Base.{Base}
+use Rattle.interp_code.specs.declared.step.Step.{Step}
+use Rattle.interp_code.specs.declared.step.Step.TheVariants.{Number, Open, Perform}
 use Rattle.f77_semantics.specs.Terms.{Meant}
 use Rattle.f77_semantics.specs.Resolve.{term, terms, sites, optional}
-use Rattle.interp_code.specs.Steps.{Step, Open, Perform, Number}
 use Rattle.interp_code.specs.Code.{code}
 use Rattle.interp_code.specs.Endings.{prelude, number_code, step_code}
-use Rattle.interp_lower.specs.Pieces.{steps_of, site_count, value_steps, target_steps, actuals_steps, items_steps, targets_steps, step_steps, loop_steps}
-use Rattle.interp_lower.proofs.Lists.{joined}
+use Rattle.interp_lower.specs.Pieces.{site_count, value_steps, target_steps, actuals_steps, items_steps, targets_steps, step_steps, loop_steps}
+use Rattle.interp_data.proofs.Lists.{joined}
 use Rattle.interp_lower.proofs.Behind.{code-append, aim-append, passes-append}
-
-pub steps_of-none : steps_of [] ≡ []
-unfolding steps_of
-steps_of-none = refl
 
 module _ (m : Name → Meant) where
   pub counted : (e : Expr) → site_count m e ≡ sites m e
@@ -71,4 +69,4 @@ module _ (m : Name → Meant) where
   unfolding targets_steps
   prelude-Read es s = refl
 
-pub ruleset preludes = (joined, steps_of-none, prelude-Assign, prelude-If, prelude-LogicalIf, prelude-ArithmeticIf, prelude-ComputedGoTo, prelude-Do, prelude-Call, prelude-Print, prelude-Read)
+pub ruleset preludes = (joined, prelude-Assign, prelude-If, prelude-LogicalIf, prelude-ArithmeticIf, prelude-ComputedGoTo, prelude-Do, prelude-Call, prelude-Print, prelude-Read)

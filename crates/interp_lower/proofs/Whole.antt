@@ -12,14 +12,14 @@ use Rattle.f77_semantics.specs.Data as given
 use Rattle.f77_semantics.specs.Resolve.{statements_from}
 use Rattle.f77_semantics.specs.Source as source
 use Rattle.f77_semantics.specs.Source.{meant_in, routine}
-use Rattle.interp_lower.specs.declared.names.Names.{Names}
+use Rattle.interp_data.specs.declared.lookup.Lookup.{Lookup}
 use Rattle.interp_lower.specs.declared.piece.Line.{Line}
 use Rattle.interp_lower.specs.declared.routine.Routine.{Routine}
-use Rattle.interp_lower.specs.Pieces.{meant}
+use Rattle.interp_data.specs.Meant.{meant}
 use Rattle.interp_lower.specs.Lines.{AreLines}
 use Rattle.interp_lower.specs.Units.{StandsFor, looked_up, Stands, Parts}
 
-pub with_lines : (r : Routine) (names : Names) (u : Unit) (lines : List Line) (callees : List Name) → Parts r names u lines callees
+pub with_lines : (r : Routine) (names : Lookup) (u : Unit) (lines : List Line) (callees : List Name) → Parts r names u lines callees
     → AreLines lines (statements_from (meant names) names.facts (source.is_main u.kind) u.statements 0 1 u.statements) → Stands r names callees u
 with_lines r names u lines callees p h = record {
   name = p.name;
@@ -31,7 +31,7 @@ with_lines r names u lines callees p h = record {
   initial = p.initial;
 }
 
-pub with_lines_of : (r : Routine) (names : Names) (u : Unit) (lines : List Line) (callees : List Name) (statements : List Stmt) (main : Bool) → statements ≡ u.statements → main ≡ source.is_main u.kind
+pub with_lines_of : (r : Routine) (names : Lookup) (u : Unit) (lines : List Line) (callees : List Name) (statements : List Stmt) (main : Bool) → statements ≡ u.statements → main ≡ source.is_main u.kind
     → AreLines lines (statements_from (meant names) names.facts main statements 0 1 statements) → Parts r names u lines callees → Stands r names callees u
 with_lines_of r names u lines callees statements main s b h p =
     let here : AreLines lines (statements_from (meant names) names.facts main u.statements 0 1 u.statements) = subst (λ (ss : List Stmt). AreLines lines (statements_from (meant names) names.facts main ss 0 1 ss)) s h in
@@ -51,13 +51,13 @@ by_parts u f slots callees = record (routine u) {
 whole : (u : Unit) → by_parts u (roles.facts u) (layouts.slots u) (layouts.callees u) ≡ routine u
 whole u = refl
 
-looked : (names : Names) (callees : List Name) (u : Unit) → looked_up names callees u ≡ by_parts u names.facts names.slots callees
+looked : (names : Lookup) (callees : List Name) (u : Unit) → looked_up names callees u ≡ by_parts u names.facts names.slots callees
 unfolding meant
 looked names callees u = refl
 
-looked_up-routine : (names : Names) (callees : List Name) (u : Unit) → names.facts ≡ roles.facts u → names.slots ≡ layouts.slots u → callees ≡ layouts.callees u → looked_up names callees u ≡ routine u
+looked_up-routine : (names : Lookup) (callees : List Name) (u : Unit) → names.facts ≡ roles.facts u → names.slots ≡ layouts.slots u → callees ≡ layouts.callees u → looked_up names callees u ≡ routine u
 looked_up-routine names callees u f s c = looked names callees u ∙ ((λ i. by_parts u (f i) (s i) (c i)) ∙ whole u)
 
-pub stands : (r : Routine) (names : Names) (callees : List Name) (u : Unit) → names.facts ≡ roles.facts u → names.slots ≡ layouts.slots u → callees ≡ layouts.callees u
+pub stands : (r : Routine) (names : Lookup) (callees : List Name) (u : Unit) → names.facts ≡ roles.facts u → names.slots ≡ layouts.slots u → callees ≡ layouts.callees u
     → Stands r names callees u → StandsFor r (routine u)
 stands r names callees u f s c h = subst (StandsFor r) (looked_up-routine names callees u f s c) h

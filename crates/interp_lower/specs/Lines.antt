@@ -2,22 +2,21 @@
 use Rattle.std.specs.Prelude.{◌≡◌, List, [], ◌∷◌, Option, Some, None}
 use Rattle.f77_semantics.specs.Program.{Statement, LogicalIf}
 use Rattle.f77_semantics.specs.Terms.{Meant, Variable}
-use Rattle.interp_code.specs.Steps.{Step}
-use Rattle.interp_code.specs.Endings.{Count, Nowhere, prelude, ending}
-use Rattle.interp_code.specs.Denoted.{ending_of}
+use Rattle.interp_code.specs.declared.step.Step.{Step}
+use Rattle.interp_code.specs.declared.ending.Ending.TheVariants.{Count, Nowhere}
+use Rattle.interp_code.specs.Endings.{prelude, ending}
 use Rattle.interp_lower.specs.declared.piece.Piece.{Piece}
 use Rattle.interp_lower.specs.declared.piece.Line.{Line}
-use Rattle.interp_lower.specs.Pieces.{steps_of}
 
 -- a piece is a statement: it has its steps and its ending
 pub record IsPiece (p : Piece) (t : Statement) : Type 0 where
-  pub steps : steps_of p.steps ≡ prelude t
-  pub ending : ending_of p.ending ≡ ending t
+  pub steps : p.steps ≡ prelude t
+  pub ending : p.ending ≡ ending t
 
 -- a DO with these steps, by what its variable stands for
 abbrev pub IsLoop : Piece → Meant → List Step → Type 0
-IsLoop p (Variable ty b) steps = (steps_of p.steps ≡ steps) × (ending_of p.ending ≡ Count b)
-IsLoop p _ steps = (steps_of p.steps ≡ []) × (ending_of p.ending ≡ Nowhere)
+IsLoop p (Variable ty b) steps = (p.steps ≡ steps) × (p.ending ≡ Count b)
+IsLoop p _ steps = (p.steps ≡ []) × (p.ending ≡ Nowhere)
 
 -- the statement inside a logical IF
 abbrev pub inside : Statement → Option Statement

@@ -8,19 +8,12 @@ use Rattle.f77_semantics.specs.Program as program
 use Rattle.f77_semantics.specs.Program.{End, ◌and◌}
 use Rattle.f77_semantics.specs.Terms.{Meant, Constant, Variable, AnArray, resolved, applied, sites_of, sites_in, term_from, terms_of}
 use Rattle.f77_semantics.specs.Resolve.{loop, term, sites, optional}
-use Rattle.f77_semantics.specs.Source.{meant_in, bound_of}
-use Rattle.interp_code.specs.declared.step.Step as written
-use Rattle.interp_code.specs.Steps.{Step, Push, Open, Fetch, Aim, Locate, Load, Pass, PassWhole, Hold, Number, Wrong}
+use Rattle.f77_semantics.specs.Source.{bound_of}
+use Rattle.f77_semantics.specs.declared.storage.Array.{Array}
+use Rattle.interp_code.specs.declared.step.Step.{Step}
+use Rattle.interp_code.specs.declared.step.Step.TheVariants.{Aim, Fetch, Hold, Load, Locate, Number, Open, Pass, PassWhole, Push, Wrong}
 use Rattle.interp_code.specs.Code.{code, codes, passes, aim, shows, reads}
 use Rattle.interp_code.specs.Entries.{bounds_code}
-use Rattle.interp_code.specs.Denoted.{step_of}
-use Rattle.interp_lower.specs.declared.names.Names.{Names}
-
-unfoldable pub steps_of : List written.Step → List Step
-steps_of all = map step_of all
-
-unfoldable pub meant : Names → Name → Meant
-meant names name = meant_in names.facts names.slots name
 
 -- ---- a name without a list
 
@@ -42,7 +35,7 @@ bare_actual_steps site position (AnArray ty a) = PassWhole a ∷ []
 bare_actual_steps site position m = held_steps site position (bare_step m)
 
 -- an element, behind its subscripts
-abbrev pub element_steps : Ty → program.Array → List Step
+abbrev pub element_steps : Ty → Array → List Step
 element_steps ty a = Locate a ∷ Load ty ∷ []
 
 module _ (meant : Name → Meant) where

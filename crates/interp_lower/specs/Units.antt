@@ -7,20 +7,14 @@ use Rattle.f77_semantics.specs.Program as program
 use Rattle.f77_semantics.specs.Data as given
 use Rattle.f77_semantics.specs.Resolve.{statements_from}
 use Rattle.f77_semantics.specs.Source as source
-use Rattle.interp_code.specs.declared.storage.Base.{Base}
-use Rattle.interp_code.specs.Denoted.{base_of}
-use Rattle.interp_lower.specs.declared.names.Names.{Names}
+use Rattle.f77_semantics.specs.declared.storage.Base.{Base}
+use Rattle.interp_data.specs.declared.lookup.Lookup.{Lookup}
 use Rattle.interp_lower.specs.declared.piece.Line.{Line}
 use Rattle.interp_lower.specs.declared.routine.Routine.{Routine}
-use Rattle.interp_lower.specs.Pieces.{meant}
+use Rattle.interp_data.specs.Meant.{meant}
 use Rattle.interp_lower.specs.Lines.{AreLines}
 use Rattle.interp_lower.specs.Routines.{dummy_of, dummy_as}
-use Rattle.interp_lower.specs.Cells.{kept_of}
-use Rattle.interp_lower.specs.Runs.{units_of}
-
-abbrev pub result_of : Option (Ty × Base) → Option (Ty × program.Base)
-result_of None = None
-result_of (Some r) = Some (r.0, base_of r.1)
+use Rattle.interp_data.specs.Spans.{units_of}
 
 -- The data are those of a unit: its statements line by line, and all else but where control goes.
 pub record StandsFor (r : Routine) (u : program.Routine) : Type 0 where
@@ -28,12 +22,12 @@ pub record StandsFor (r : Routine) (u : program.Routine) : Type 0 where
   pub statements : AreLines r.lines u.statements
   pub callees : r.callees ≡ u.callees
   pub dummy_arrays : map dummy_of r.dummy_arrays ≡ map dummy_as u.dummy_arrays
-  pub result : result_of r.result ≡ u.result
-  pub kept : map kept_of r.cells.kept ≡ u.kept
+  pub result : r.result ≡ u.result
+  pub kept : r.cells.kept ≡ u.kept
   pub initial : flat_map units_of r.cells.initial ≡ u.initial
 
 -- a unit with its names, and with the callees of its sites
-abbrev pub looked_up : Names → List Name → Unit → program.Routine
+abbrev pub looked_up : Lookup → List Name → Unit → program.Routine
 looked_up names callees u = record (source.routine u) {
   statements = statements_from (meant names) names.facts (source.is_main u.kind) u.statements 0 1 u.statements;
   callees = callees;
@@ -43,15 +37,15 @@ looked_up names callees u = record (source.routine u) {
   initial = given.initial names.facts.constants (meant names) u.statements;
 }
 
-abbrev pub Stands : Routine → Names → List Name → Unit → Type 0
+abbrev pub Stands : Routine → Lookup → List Name → Unit → Type 0
 Stands r names callees u = StandsFor r (looked_up names callees u)
 
 -- all but the lines, which are given
-pub record Parts (r : Routine) (names : Names) (u : Unit) (lines : List Line) (callees : List Name) : Type 0 where
+pub record Parts (r : Routine) (names : Lookup) (u : Unit) (lines : List Line) (callees : List Name) : Type 0 where
   pub name : r.name ≡ u.name
   pub lines_ : r.lines ≡ lines
   pub callees_ : r.callees ≡ callees
   pub dummy_arrays : map dummy_of r.dummy_arrays ≡ map dummy_as (source.dummy_arrays_from names.facts (meant names) 0 u.dummies)
-  pub result : result_of r.result ≡ source.result_of u.kind (meant names u.name)
-  pub kept : map kept_of r.cells.kept ≡ given.kept u.statements names.slots
+  pub result : r.result ≡ source.result_of u.kind (meant names u.name)
+  pub kept : r.cells.kept ≡ given.kept u.statements names.slots
   pub initial : flat_map units_of r.cells.initial ≡ given.initial names.facts.constants (meant names) u.statements

@@ -2,15 +2,16 @@
 ghost use Rattle.std.specs.Prelude.{◌≡◌, ◌++◌, map, IfOk, OnOk};
 ghost use Rattle.f77_names.specs.Roles as roles;
 ghost use Rattle.f77_semantics.specs.Source as source;
+ghost use Rattle.interp_data.specs.Meant.{meant};
 ghost use Rattle.interp_lower.specs.Pieces as p;
 ghost use Rattle.interp_lower.specs.Routines as r;
 
-use super::names::Names;
 use super::numbers::{push_number, push_or_one};
 use super::steps::add;
 use f77_names::{Role, role_of};
 use f77_tree::{Expr, List, Name};
 use interp_code::Step;
+use interp_data::Lookup;
 use std::alloc::{AllocError, Global};
 
 /// A dummy array by its position among the dummies, counted from 0, with the steps of its bounds, which have no sites.
@@ -24,10 +25,10 @@ pub struct DummyArray {
 fn push_upper(
     alloc: Global,
     code: &mut List<Step>,
-    names: &Names,
+    names: &Lookup,
     bound: &Option<Expr>,
 ) -> Result<(), AllocError>
-    ensures { OnOk result (p.steps_of code.new ≡ p.steps_of code.old ++ p.upper_steps (p.meant names.now) bound.now) }
+    ensures { OnOk result (code.new ≡ code.old ++ p.upper_steps (meant names.now) bound.now) }
 {
     match bound {
         Some(e) => {
@@ -42,10 +43,10 @@ fn push_upper(
 fn push_bound(
     alloc: Global,
     code: &mut List<Step>,
-    names: &Names,
+    names: &Lookup,
     bound: &(Option<Expr>, Option<Expr>),
 ) -> Result<(), AllocError>
-    ensures { OnOk result (p.steps_of code.new ≡ p.steps_of code.old ++ p.bound_steps (p.meant names.now) bound.now) }
+    ensures { OnOk result (code.new ≡ code.old ++ p.bound_steps (meant names.now) bound.now) }
 {
     push_or_one(alloc, code, names, 1, &bound.0)?;
     push_upper(alloc, code, names, &bound.1)
@@ -54,10 +55,10 @@ fn push_bound(
 #[tactic(auto, using(crate::proofs::Dimensions::dimensions))]
 fn bounds_steps(
     alloc: Global,
-    names: &Names,
+    names: &Lookup,
     bounds: &List<(Option<Expr>, Option<Expr>)>,
 ) -> Result<List<Step>, AllocError>
-    ensures { IfOk result (λ steps. p.steps_of steps ≡ p.bounds_steps (p.meant names.now) bounds.now) }
+    ensures { IfOk result (λ steps. steps ≡ p.bounds_steps (meant names.now) bounds.now) }
 {
     let mut steps = List::new(alloc);
     for bound in bounds.as_slice() {
@@ -70,11 +71,11 @@ fn bounds_steps(
 fn push_array(
     alloc: Global,
     found: &mut List<DummyArray>,
-    names: &Names,
+    names: &Lookup,
     dummy: usize,
     role: &Role,
 ) -> Result<(), AllocError>
-    ensures { OnOk result (map r.dummy_of found.new ≡ map r.dummy_of found.old ++ map r.dummy_as (source.dummy_array (p.meant names.now) dummy role.now)) }
+    ensures { OnOk result (map r.dummy_of found.new ≡ map r.dummy_of found.old ++ map r.dummy_as (source.dummy_array (meant names.now) dummy role.now)) }
 {
     match role {
         Role::Array(bounds) => {
@@ -93,11 +94,11 @@ fn push_array(
 fn push_dummy(
     alloc: Global,
     found: &mut List<DummyArray>,
-    names: &Names,
+    names: &Lookup,
     dummy: usize,
     name: &Name,
 ) -> Result<(), AllocError>
-    ensures { OnOk result (map r.dummy_of found.new ≡ map r.dummy_of found.old ++ map r.dummy_as (source.dummy_array (p.meant names.now) dummy (roles.role names.now.facts name.now))) }
+    ensures { OnOk result (map r.dummy_of found.new ≡ map r.dummy_of found.old ++ map r.dummy_as (source.dummy_array (meant names.now) dummy (roles.role names.now.facts name.now))) }
 {
     let role = role_of(alloc, &names.facts, name)?;
     push_array(alloc, found, names, dummy, &role)
@@ -107,10 +108,10 @@ fn push_dummy(
 #[tactic(auto, using(crate::proofs::Dimensions::dimensions))]
 pub fn dummy_arrays(
     alloc: Global,
-    names: &Names,
+    names: &Lookup,
     dummies: &List<Name>,
 ) -> Result<List<DummyArray>, AllocError>
-    ensures { IfOk result (λ all. map r.dummy_of all ≡ map r.dummy_as (source.dummy_arrays_from names.now.facts (p.meant names.now) 0 dummies.now)) }
+    ensures { IfOk result (λ all. map r.dummy_of all ≡ map r.dummy_as (source.dummy_arrays_from names.now.facts (meant names.now) 0 dummies.now)) }
 {
     let mut found = List::new(alloc);
     let all = dummies.as_slice();

@@ -4,32 +4,30 @@ ghost use Rattle.f77_tree.specs.declared.form.Form.{out-Form};
 ghost use Rattle.f77_flow.specs.Labels as l;
 ghost use Rattle.f77_semantics.specs.Program as program;
 ghost use Rattle.f77_semantics.specs.Resolve as r;
-ghost use Rattle.interp_lower.specs.Meanings as m;
+ghost use Rattle.interp_data.specs.Meanings as m;
+ghost use Rattle.interp_data.specs.Meant.{meant};
 ghost use Rattle.interp_lower.specs.Pieces as p;
 ghost use Rattle.interp_lower.specs.Lines as lines;
 
-use super::meaning::Meaning;
-use super::names::Names;
 use super::numbers::{push_number, push_or_one};
 use super::piece::{Line, Piece};
 use super::simple::{condition_steps, ending_alone, simple};
 use super::sites::sites_of;
-use super::standing::copy_base;
-use super::steps::meaning_of;
 use f77_flow::Control;
 use f77_tree::{Expr, Form, List, Name};
 use interp_code::{Ending, Step};
+use interp_data::{Lookup, Meaning, copy_base, meaning_of};
 use std::alloc::{AllocError, Global};
 
 #[tactic(auto, using(crate::proofs::Preludes::preludes))]
 fn block_if(
     alloc: Global,
-    names: &Names,
+    names: &Lookup,
     site: usize,
     e: &Expr,
     otherwise: u32,
 ) -> Result<Piece, AllocError>
-    ensures { IfOk result (λ piece. lines.IsPiece piece (program.If (r.term (p.meant names.now) e.now site) otherwise)) }
+    ensures { IfOk result (λ piece. lines.IsPiece piece (program.If (r.term (meant names.now) e.now site) otherwise)) }
 {
     let (steps, _) = condition_steps(alloc, names, site, e)?;
     Ok(Piece {
@@ -41,13 +39,13 @@ fn block_if(
 #[tactic(auto, using(crate::proofs::Preludes::preludes))]
 fn loop_steps(
     alloc: Global,
-    names: &Names,
+    names: &Lookup,
     site: usize,
     first: &Expr,
     last: &Expr,
     step: &Option<Expr>,
 ) -> Result<List<Step>, AllocError>
-    ensures { IfOk result (λ steps. p.steps_of steps ≡ p.loop_steps (p.meant names.now) first.now last.now step.now site) }
+    ensures { IfOk result (λ steps. steps ≡ p.loop_steps (meant names.now) first.now last.now step.now site) }
 {
     let mut steps = List::new(alloc);
     let middle = push_number(alloc, &mut steps, names, site, first)?;
@@ -58,7 +56,7 @@ fn loop_steps(
 
 // A DO by what its variable stands for.
 fn counted(alloc: Global, meaning: &Meaning, steps: List<Step>) -> Result<Piece, AllocError>
-    ensures { IfOk result (λ piece. lines.IsLoop piece (m.meant_of meaning.now) (p.steps_of steps)) }
+    ensures { IfOk result (λ piece. lines.IsLoop piece (m.meant_of meaning.now) steps) }
 {
     match meaning {
         Meaning::Variable(_, base) => Ok(Piece {
@@ -75,13 +73,13 @@ fn counted(alloc: Global, meaning: &Meaning, steps: List<Step>) -> Result<Piece,
 
 fn do_loop(
     alloc: Global,
-    names: &Names,
+    names: &Lookup,
     site: usize,
     name: &Name,
     bounds: (&Expr, &Expr),
     step: &Option<Expr>,
 ) -> Result<Piece, AllocError>
-    ensures { IfOk result (λ piece. lines.IsPiece piece (p.do_loop (p.meant names.now) name.now bounds.entry.0.now bounds.entry.1.now step.now site)) }
+    ensures { IfOk result (λ piece. lines.IsPiece piece (p.do_loop (meant names.now) name.now bounds.entry.0.now bounds.entry.1.now step.now site)) }
 {
     let meaning = meaning_of(alloc, names, name)?;
     let steps = loop_steps(alloc, names, site, bounds.0, bounds.1, step)?;
@@ -98,14 +96,14 @@ fn single(piece: Piece) -> Line
 
 fn logical_if(
     alloc: Global,
-    names: &Names,
+    names: &Lookup,
     control: &Control,
     main: bool,
     site: usize,
     e: &Expr,
     inner: &Form,
 ) -> Result<Line, AllocError>
-    ensures { IfOk result (λ line. lines.IsLine line (program.LogicalIf (r.term (p.meant names.now) e.now site) (r.simple (p.meant names.now) main (l.target control.now.statements.now) (site + r.sites (p.meant names.now) e.now) (out-Form inner.now)))) }
+    ensures { IfOk result (λ line. lines.IsLine line (program.LogicalIf (r.term (meant names.now) e.now site) (r.simple (meant names.now) main (l.target control.now.statements.now) (site + r.sites (meant names.now) e.now) (out-Form inner.now)))) }
 {
     let (steps, next) = condition_steps(alloc, names, site, e)?;
     let inner = simple(alloc, names, control, main, next, inner)?;
@@ -121,7 +119,7 @@ fn logical_if(
 // Statement k, whose form this is, from its first site on.
 fn line_of(
     alloc: Global,
-    names: &Names,
+    names: &Lookup,
     control: &Control,
     main: bool,
     k: usize,
@@ -129,7 +127,7 @@ fn line_of(
     form: &Form,
 ) -> Result<Line, AllocError>
     requires { k < length control.now.statements.now }
-    ensures { IfOk result (λ line. lines.IsLine line (r.statement_of (p.meant names.now) main control.now.statements.now k site (out-Form form.now))) }
+    ensures { IfOk result (λ line. lines.IsLine line (r.statement_of (meant names.now) main control.now.statements.now k site (out-Form form.now))) }
 {
     match form {
         Form::BlockIf(e) | Form::ElseIf(e) => {
@@ -154,11 +152,11 @@ fn line_of(
 /// The statements of a unit. The first site of each follows the last of those before it.
 pub fn lines_of(
     alloc: Global,
-    names: &Names,
+    names: &Lookup,
     control: &Control,
     main: bool,
 ) -> Result<List<Line>, AllocError>
-    ensures { IfOk result (λ all. lines.AreLines all (r.statements_from (p.meant names.now) names.now.facts main control.now.statements.now 0 1 control.now.statements.now)) }
+    ensures { IfOk result (λ all. lines.AreLines all (r.statements_from (meant names.now) names.now.facts main control.now.statements.now 0 1 control.now.statements.now)) }
 {
     let mut all = List::new(alloc);
     let mut site = 1;

@@ -1,13 +1,14 @@
 //! Numbers: the bounds of DO and of arrays.
 ghost use Rattle.std.specs.Prelude.{◌≡◌, ◌+◌, ◌++◌, ◌∷◌, [], IfOk, OnOk};
-ghost use Rattle.interp_code.specs.Steps as s;
+ghost use Rattle.interp_data.specs.Meant.{meant};
 ghost use Rattle.interp_lower.specs.Pieces as p;
+ghost use Rattle.interp_code.specs.declared.step.Step.TheVariants.{Number};
 
-use super::names::Names;
 use super::steps::add;
 use super::terms::push_value;
 use f77_tree::{Expr, List, Value};
 use interp_code::Step;
+use interp_data::Lookup;
 use std::alloc::{AllocError, Global};
 
 /// The value of an expression as a number.
@@ -15,12 +16,12 @@ use std::alloc::{AllocError, Global};
 pub fn push_number(
     alloc: Global,
     code: &mut List<Step>,
-    names: &Names,
+    names: &Lookup,
     site: usize,
     e: &Expr,
 ) -> Result<usize, AllocError>
-    ensures next { IfOk result (λ next. next ≡ site + p.site_count (p.meant names.now) e.now) }
-    ensures steps { OnOk result (p.steps_of code.new ≡ p.steps_of code.old ++ (p.value_steps (p.meant names.now) e.now site ++ s.Number ∷ [])) }
+    ensures next { IfOk result (λ next. next ≡ site + p.site_count (meant names.now) e.now) }
+    ensures steps { OnOk result (code.new ≡ code.old ++ (p.value_steps (meant names.now) e.now site ++ Number ∷ [])) }
 {
     let next = push_value(alloc, code, names, site, e)?;
     add(code, Step::Number)?;
@@ -32,11 +33,11 @@ pub fn push_number(
 pub fn push_or_one(
     alloc: Global,
     code: &mut List<Step>,
-    names: &Names,
+    names: &Lookup,
     site: usize,
     e: &Option<Expr>,
 ) -> Result<(), AllocError>
-    ensures { OnOk result (p.steps_of code.new ≡ p.steps_of code.old ++ p.step_steps (p.meant names.now) e.now site) }
+    ensures { OnOk result (code.new ≡ code.old ++ p.step_steps (meant names.now) e.now site) }
 {
     match e {
         Some(e) => {

@@ -3,34 +3,28 @@ ghost use Rattle.std.specs.Prelude.{◌≡◌, flat_map, map, IfOk};
 ghost use Rattle.f77_names.specs.Roles as roles;
 ghost use Rattle.f77_semantics.specs.Data as given;
 ghost use Rattle.f77_semantics.specs.Source as source;
-ghost use Rattle.interp_lower.specs.Cells as c;
-ghost use Rattle.interp_lower.specs.Meanings as m;
-ghost use Rattle.interp_lower.specs.Pieces as p;
-ghost use Rattle.interp_lower.specs.Runs as r;
+ghost use Rattle.interp_data.specs.Cells as c;
+ghost use Rattle.interp_data.specs.Meanings as m;
+ghost use Rattle.interp_data.specs.Meant.{meant};
+ghost use Rattle.interp_data.specs.Spans as r;
 ghost use Rattle.interp_lower.specs.Units as u;
 
 use super::arrays::{DummyArray, dummy_arrays};
-use super::kept::{Kept, kept_of};
 use super::lines::lines_of;
-use super::meaning::Meaning;
-use super::names::Names;
 use super::piece::Line;
-use super::runs::Run;
-use super::standing::copy_base;
-use super::steps::meaning_of;
-use super::values::initial;
 use f77_flow::Control;
 use f77_names::{Facts, declarations_of, facts_of, occurrences_of};
+use f77_semantics::{Base, Kept};
 use f77_store::{Layout, Slot, layout};
 use f77_tree::{List, Name, Ty, Unit, UnitKind};
-use interp_code::Base;
+use interp_data::{Lookup, Meaning, Span, copy_base, initial, kept_of, meaning_of};
 use std::alloc::{AllocError, Global};
 
 /// What SAVE and DATA keep of a unit's local cells, and what DATA gives, also to COMMON.
 #[derive(Drop)]
 pub struct Cells {
     pub kept: List<Kept>,
-    pub initial: List<Run>,
+    pub initial: List<Span>,
 }
 
 /// A unit: its statements, the callee of each site, its dummy arrays, its cells, and the result variable of a function. Where control
@@ -46,7 +40,7 @@ pub struct Routine {
 }
 
 fn variable(alloc: Global, meaning: &Meaning) -> Result<Option<(Ty, Base)>, AllocError>
-    ensures { IfOk result (λ variable. u.result_of variable ≡ source.result_as (m.meant_of meaning.now)) }
+    ensures { IfOk result (λ variable. variable ≡ source.result_as (m.meant_of meaning.now)) }
 {
     match meaning {
         Meaning::Variable(ty, base) => Ok(Some((*ty, copy_base(alloc, base)?))),
@@ -58,16 +52,20 @@ fn variable(alloc: Global, meaning: &Meaning) -> Result<Option<(Ty, Base)>, Allo
     }
 }
 
-fn own_variable(alloc: Global, names: &Names, name: &Name) -> Result<Option<(Ty, Base)>, AllocError>
-    ensures { IfOk result (λ variable. u.result_of variable ≡ source.result_as (p.meant names.now name.now)) }
+fn own_variable(
+    alloc: Global,
+    names: &Lookup,
+    name: &Name,
+) -> Result<Option<(Ty, Base)>, AllocError>
+    ensures { IfOk result (λ variable. variable ≡ source.result_as (meant names.now name.now)) }
 {
     let meaning = meaning_of(alloc, names, name)?;
     variable(alloc, &meaning)
 }
 
 // The result variable of a function.
-fn result_of(alloc: Global, names: &Names, unit: &Unit) -> Result<Option<(Ty, Base)>, AllocError>
-    ensures { IfOk result (λ variable. u.result_of variable ≡ source.result_of unit.now.kind (p.meant names.now unit.now.name)) }
+fn result_of(alloc: Global, names: &Lookup, unit: &Unit) -> Result<Option<(Ty, Base)>, AllocError>
+    ensures { IfOk result (λ variable. variable ≡ source.result_of unit.now.kind (meant names.now unit.now.name)) }
 {
     match unit.kind {
         UnitKind::Function => own_variable(alloc, names, &unit.name),
@@ -84,9 +82,9 @@ fn is_main(kind: UnitKind) -> bool
     }
 }
 
-fn cells_of(alloc: Global, names: &Names, unit: &Unit) -> Result<Cells, AllocError>
-    ensures kept { IfOk result (λ cells. map c.kept_of cells.kept ≡ given.kept unit.now.statements names.now.slots) }
-    ensures initial { IfOk result (λ cells. flat_map r.units_of cells.initial ≡ given.initial names.now.facts.constants (p.meant names.now) unit.now.statements) }
+fn cells_of(alloc: Global, names: &Lookup, unit: &Unit) -> Result<Cells, AllocError>
+    ensures kept { IfOk result (λ cells. cells.kept ≡ given.kept unit.now.statements names.now.slots) }
+    ensures initial { IfOk result (λ cells. flat_map r.units_of cells.initial ≡ given.initial names.now.facts.constants (meant names.now) unit.now.statements) }
 {
     let kept = kept_of(alloc, &unit.statements, &names.slots)?;
     let initial = initial(alloc, names, &unit.statements)?;
@@ -95,7 +93,7 @@ fn cells_of(alloc: Global, names: &Names, unit: &Unit) -> Result<Cells, AllocErr
 
 fn with_lines(
     alloc: Global,
-    names: &Names,
+    names: &Lookup,
     unit: &Unit,
     lines: List<Line>,
     callees: List<Name>,
@@ -118,7 +116,7 @@ fn with_lines(
 
 fn with_names(
     alloc: Global,
-    names: &Names,
+    names: &Lookup,
     unit: &Unit,
     control: &Control,
     callees: List<Name>,
@@ -138,12 +136,12 @@ fn facts(alloc: Global, unit: &Unit) -> Result<Facts, AllocError>
     facts_of(alloc, unit, &all, &declarations)
 }
 
-fn names_of(alloc: Global, unit: &Unit, slots: List<Slot>) -> Result<Names, AllocError>
+fn names_of(alloc: Global, unit: &Unit, slots: List<Slot>) -> Result<Lookup, AllocError>
     ensures facts { IfOk result (λ names. names.facts ≡ roles.facts unit.now) }
     ensures slots { IfOk result (λ names. names.slots ≡ slots) }
 {
     let facts = facts(alloc, unit)?;
-    Names::new(alloc, facts, slots)
+    Lookup::new(alloc, facts, slots)
 }
 
 /// All that an interpreter needs of a unit beside where control goes. It stands for what the unit means. It fails where memory runs out,

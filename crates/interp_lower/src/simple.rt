@@ -4,13 +4,12 @@ ghost use Rattle.f77_tree.specs.declared.form.Form.{out-Form};
 ghost use Rattle.f77_flow.specs.Labels as l;
 ghost use Rattle.f77_semantics.specs.Program as program;
 ghost use Rattle.f77_semantics.specs.Resolve as r;
-ghost use Rattle.interp_code.specs.Denoted as d;
 ghost use Rattle.interp_code.specs.Endings as e;
-ghost use Rattle.interp_code.specs.Steps as s;
+ghost use Rattle.interp_data.specs.Meant.{meant};
 ghost use Rattle.interp_lower.specs.Pieces as p;
 ghost use Rattle.interp_lower.specs.Lines as lines;
+ghost use Rattle.interp_code.specs.declared.step.Step.TheVariants.{Number, Open, Perform};
 
-use super::names::Names;
 use super::piece::Piece;
 use super::steps::{add, following};
 use super::targets::{push_items, push_target, push_targets};
@@ -18,18 +17,19 @@ use super::terms::{push_actuals, push_value};
 use f77_flow::Control;
 use f77_tree::{Expr, Form, List};
 use interp_code::{Ending, Step};
+use interp_data::Lookup;
 use std::alloc::{AllocError, Global};
 
 /// The steps of a condition.
 #[tactic(auto, using(crate::proofs::Preludes::preludes))]
 pub fn condition_steps(
     alloc: Global,
-    names: &Names,
+    names: &Lookup,
     site: usize,
     e: &Expr,
 ) -> Result<(List<Step>, usize), AllocError>
-    ensures steps { IfOk result (λ made. p.steps_of made.0 ≡ p.value_steps (p.meant names.now) e.now site) }
-    ensures next { IfOk result (λ made. made.1 ≡ site + p.site_count (p.meant names.now) e.now) }
+    ensures steps { IfOk result (λ made. made.0 ≡ p.value_steps (meant names.now) e.now site) }
+    ensures next { IfOk result (λ made. made.1 ≡ site + p.site_count (meant names.now) e.now) }
 {
     let mut steps = List::new(alloc);
     let next = push_value(alloc, &mut steps, names, site, e)?;
@@ -39,12 +39,12 @@ pub fn condition_steps(
 #[tactic(auto, using(crate::proofs::Preludes::preludes))]
 fn assign_steps(
     alloc: Global,
-    names: &Names,
+    names: &Lookup,
     site: usize,
     target: &Expr,
     value: &Expr,
 ) -> Result<List<Step>, AllocError>
-    ensures { IfOk result (λ steps. p.steps_of steps ≡ p.target_steps (p.meant names.now) target.now site ++ p.value_steps (p.meant names.now) value.now (site + p.site_count (p.meant names.now) target.now)) }
+    ensures { IfOk result (λ steps. steps ≡ p.target_steps (meant names.now) target.now site ++ p.value_steps (meant names.now) value.now (site + p.site_count (meant names.now) target.now)) }
 {
     let mut steps = List::new(alloc);
     let next = push_target(alloc, &mut steps, names, site, target)?;
@@ -55,11 +55,11 @@ fn assign_steps(
 #[tactic(auto, using(crate::proofs::Preludes::preludes))]
 fn number_steps(
     alloc: Global,
-    names: &Names,
+    names: &Lookup,
     site: usize,
     e: &Expr,
 ) -> Result<List<Step>, AllocError>
-    ensures { IfOk result (λ steps. p.steps_of steps ≡ p.value_steps (p.meant names.now) e.now site ++ s.Number ∷ []) }
+    ensures { IfOk result (λ steps. steps ≡ p.value_steps (meant names.now) e.now site ++ Number ∷ []) }
 {
     let mut steps = List::new(alloc);
     push_value(alloc, &mut steps, names, site, e)?;
@@ -70,11 +70,11 @@ fn number_steps(
 #[tactic(auto, using(crate::proofs::Preludes::preludes))]
 fn call_steps(
     alloc: Global,
-    names: &Names,
+    names: &Lookup,
     site: usize,
     actuals: &List<Expr>,
 ) -> Result<List<Step>, AllocError>
-    ensures { IfOk result (λ steps. p.steps_of steps ≡ s.Open ∷ (p.actuals_steps (p.meant names.now) site 0 actuals.now (suc site) ++ s.Perform site ∷ [])) }
+    ensures { IfOk result (λ steps. steps ≡ Open ∷ (p.actuals_steps (meant names.now) site 0 actuals.now (suc site) ++ Perform site ∷ [])) }
 {
     let first = following(site)?;
     let mut steps = List::new(alloc);
@@ -87,11 +87,11 @@ fn call_steps(
 #[tactic(auto, using(crate::proofs::Preludes::preludes))]
 fn print_steps(
     alloc: Global,
-    names: &Names,
+    names: &Lookup,
     site: usize,
     items: &List<Expr>,
 ) -> Result<List<Step>, AllocError>
-    ensures { IfOk result (λ steps. p.steps_of steps ≡ p.items_steps (p.meant names.now) items.now site) }
+    ensures { IfOk result (λ steps. steps ≡ p.items_steps (meant names.now) items.now site) }
 {
     let mut steps = List::new(alloc);
     push_items(alloc, &mut steps, names, site, items)?;
@@ -101,18 +101,18 @@ fn print_steps(
 #[tactic(auto, using(crate::proofs::Preludes::preludes))]
 fn read_steps(
     alloc: Global,
-    names: &Names,
+    names: &Lookup,
     site: usize,
     targets: &List<Expr>,
 ) -> Result<List<Step>, AllocError>
-    ensures { IfOk result (λ steps. p.steps_of steps ≡ p.targets_steps (p.meant names.now) targets.now site) }
+    ensures { IfOk result (λ steps. steps ≡ p.targets_steps (meant names.now) targets.now site) }
 {
     let mut steps = List::new(alloc);
     push_targets(alloc, &mut steps, names, site, targets)?;
     Ok(steps)
 }
 
-#[tactic(auto, using(crate::proofs::Lists::joined))]
+#[tactic(auto, using(interp_data::proofs::Lists::joined))]
 fn targets_of(alloc: Global, control: &Control, labels: &List<u32>) -> Result<List<u32>, AllocError>
     ensures { IfOk result (λ all. all ≡ map (l.target control.now.statements.now) labels.now) }
 {
@@ -126,8 +126,8 @@ fn targets_of(alloc: Global, control: &Control, labels: &List<u32>) -> Result<Li
 /// A statement without steps.
 #[tactic(auto, using(crate::proofs::Preludes::preludes))]
 pub fn ending_alone(alloc: Global, ending: Ending) -> Piece
-    ensures steps { p.steps_of result.steps ≡ [] }
-    ensures ending { d.ending_of result.ending ≡ d.ending_of ending }
+    ensures steps { result.steps ≡ [] }
+    ensures ending { result.ending ≡ ending }
 {
     Piece {
         steps: List::new(alloc),
@@ -136,7 +136,7 @@ pub fn ending_alone(alloc: Global, ending: Ending) -> Piece
 }
 
 fn end(main: bool) -> Ending
-    ensures { d.ending_of result ≡ e.ending (if main then program.Stop else program.Return) }
+    ensures { result ≡ e.ending (if main then program.Stop else program.Return) }
 {
     if main { Ending::Halt } else { Ending::Leave }
 }
@@ -144,12 +144,12 @@ fn end(main: bool) -> Ending
 #[tactic(auto, using(crate::proofs::Preludes::preludes))]
 fn assign(
     alloc: Global,
-    names: &Names,
+    names: &Lookup,
     site: usize,
     target: &Expr,
     value: &Expr,
 ) -> Result<Piece, AllocError>
-    ensures { IfOk result (λ piece. lines.IsPiece piece (program.Assign (r.term (p.meant names.now) target.now site) (r.term (p.meant names.now) value.now (site + r.sites (p.meant names.now) target.now)))) }
+    ensures { IfOk result (λ piece. lines.IsPiece piece (program.Assign (r.term (meant names.now) target.now site) (r.term (meant names.now) value.now (site + r.sites (meant names.now) target.now)))) }
 {
     let steps = assign_steps(alloc, names, site, target, value)?;
     Ok(Piece {
@@ -161,12 +161,12 @@ fn assign(
 #[tactic(auto, using(crate::proofs::Preludes::preludes))]
 fn arithmetic_if(
     alloc: Global,
-    names: &Names,
+    names: &Lookup,
     site: usize,
     e: &Expr,
     ways: (u32, u32, u32),
 ) -> Result<Piece, AllocError>
-    ensures { IfOk result (λ piece. lines.IsPiece piece (program.ArithmeticIf (r.term (p.meant names.now) e.now site) ways.0 ways.1 ways.2)) }
+    ensures { IfOk result (λ piece. lines.IsPiece piece (program.ArithmeticIf (r.term (meant names.now) e.now site) ways.0 ways.1 ways.2)) }
 {
     let steps = number_steps(alloc, names, site, e)?;
     Ok(Piece {
@@ -178,12 +178,12 @@ fn arithmetic_if(
 #[tactic(auto, using(crate::proofs::Preludes::preludes))]
 fn computed(
     alloc: Global,
-    names: &Names,
+    names: &Lookup,
     site: usize,
     e: &Expr,
     ways: List<u32>,
 ) -> Result<Piece, AllocError>
-    ensures { IfOk result (λ piece. lines.IsPiece piece (program.ComputedGoTo ways (r.term (p.meant names.now) e.now site))) }
+    ensures { IfOk result (λ piece. lines.IsPiece piece (program.ComputedGoTo ways (r.term (meant names.now) e.now site))) }
 {
     let steps = number_steps(alloc, names, site, e)?;
     Ok(Piece {
@@ -194,13 +194,13 @@ fn computed(
 
 fn computed_go_to(
     alloc: Global,
-    names: &Names,
+    names: &Lookup,
     control: &Control,
     site: usize,
     labels: &List<u32>,
     e: &Expr,
 ) -> Result<Piece, AllocError>
-    ensures { IfOk result (λ piece. lines.IsPiece piece (program.ComputedGoTo (map (l.target control.now.statements.now) labels.now) (r.term (p.meant names.now) e.now site))) }
+    ensures { IfOk result (λ piece. lines.IsPiece piece (program.ComputedGoTo (map (l.target control.now.statements.now) labels.now) (r.term (meant names.now) e.now site))) }
 {
     let ways = targets_of(alloc, control, labels)?;
     computed(alloc, names, site, e, ways)
@@ -209,11 +209,11 @@ fn computed_go_to(
 #[tactic(auto, using(crate::proofs::Preludes::preludes))]
 fn call(
     alloc: Global,
-    names: &Names,
+    names: &Lookup,
     site: usize,
     actuals: &List<Expr>,
 ) -> Result<Piece, AllocError>
-    ensures { IfOk result (λ piece. lines.IsPiece piece (program.Call site (r.terms (p.meant names.now) actuals.now (suc site)))) }
+    ensures { IfOk result (λ piece. lines.IsPiece piece (program.Call site (r.terms (meant names.now) actuals.now (suc site)))) }
 {
     let steps = call_steps(alloc, names, site, actuals)?;
     Ok(Piece {
@@ -223,8 +223,13 @@ fn call(
 }
 
 #[tactic(auto, using(crate::proofs::Preludes::preludes))]
-fn print(alloc: Global, names: &Names, site: usize, items: &List<Expr>) -> Result<Piece, AllocError>
-    ensures { IfOk result (λ piece. lines.IsPiece piece (program.Print (r.terms (p.meant names.now) items.now site))) }
+fn print(
+    alloc: Global,
+    names: &Lookup,
+    site: usize,
+    items: &List<Expr>,
+) -> Result<Piece, AllocError>
+    ensures { IfOk result (λ piece. lines.IsPiece piece (program.Print (r.terms (meant names.now) items.now site))) }
 {
     let steps = print_steps(alloc, names, site, items)?;
     Ok(Piece {
@@ -236,11 +241,11 @@ fn print(alloc: Global, names: &Names, site: usize, items: &List<Expr>) -> Resul
 #[tactic(auto, using(crate::proofs::Preludes::preludes))]
 fn read(
     alloc: Global,
-    names: &Names,
+    names: &Lookup,
     site: usize,
     targets: &List<Expr>,
 ) -> Result<Piece, AllocError>
-    ensures { IfOk result (λ piece. lines.IsPiece piece (program.Read (r.terms (p.meant names.now) targets.now site))) }
+    ensures { IfOk result (λ piece. lines.IsPiece piece (program.Read (r.terms (meant names.now) targets.now site))) }
 {
     let steps = read_steps(alloc, names, site, targets)?;
     Ok(Piece {
@@ -252,13 +257,13 @@ fn read(
 /// A statement that may stand in a logical IF, from its first site on. END is STOP in a main program.
 pub fn simple(
     alloc: Global,
-    names: &Names,
+    names: &Lookup,
     control: &Control,
     main: bool,
     site: usize,
     form: &Form,
 ) -> Result<Piece, AllocError>
-    ensures { IfOk result (λ piece. lines.IsPiece piece (r.simple (p.meant names.now) main (l.target control.now.statements.now) site (out-Form form.now))) }
+    ensures { IfOk result (λ piece. lines.IsPiece piece (r.simple (meant names.now) main (l.target control.now.statements.now) site (out-Form form.now))) }
 {
     match form {
         Form::Assign(target, value) => assign(alloc, names, site, target, value),

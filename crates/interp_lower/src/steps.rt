@@ -1,20 +1,19 @@
 //! Steps behind others.
 ghost use Rattle.std.specs.Prelude.{◌≡◌, ◌∷◌, [], ◌++◌, suc, IfOk, OnOk};
-ghost use Rattle.interp_code.specs.Denoted as d;
-ghost use Rattle.interp_lower.specs.Meanings as m;
+ghost use Rattle.interp_data.specs.Meanings as m;
+ghost use Rattle.interp_data.specs.Meant.{meant};
 ghost use Rattle.interp_lower.specs.Pieces as p;
 
-use super::meaning::Meaning;
-use super::names::Names;
-use super::standing::{copy_array, copy_base};
+use f77_semantics::Array;
 use f77_tree::{List, Name, Ty};
-use interp_code::{Array, Step};
+use interp_code::Step;
+use interp_data::{Lookup, Meaning, copy_array, copy_base};
 use std::alloc::{AllocError, Global};
 
 /// One more step.
-#[tactic(auto, using(crate::proofs::Lists::joined))]
+#[tactic(auto, using(interp_data::proofs::Lists::joined))]
 pub fn add(code: &mut List<Step>, step: Step) -> Result<(), AllocError>
-    ensures { OnOk result (p.steps_of code.new ≡ p.steps_of code.old ++ d.step_of step ∷ []) }
+    ensures { OnOk result (code.new ≡ code.old ++ step ∷ []) }
 {
     code.push(step)
 }
@@ -26,16 +25,9 @@ pub fn following(site: usize) -> Result<usize, AllocError>
     site.checked_add(1).ok_or(AllocError)
 }
 
-/// What a name stands for.
-pub fn meaning_of(alloc: Global, names: &Names, name: &Name) -> Result<Meaning, AllocError>
-    ensures { IfOk result (λ meaning. m.meant_of meaning ≡ p.meant names.now name.now) }
-{
-    names.meaning(alloc, name)
-}
-
 /// The value of a name without a list.
 pub fn bare_step(alloc: Global, meaning: &Meaning) -> Result<Step, AllocError>
-    ensures { IfOk result (λ step. d.step_of step ≡ p.bare_step (m.meant_of meaning.now)) }
+    ensures { IfOk result (λ step. step ≡ p.bare_step (m.meant_of meaning.now)) }
 {
     match meaning {
         Meaning::Constant(value) => Ok(Step::Push(*value)),
@@ -48,7 +40,7 @@ pub fn bare_step(alloc: Global, meaning: &Meaning) -> Result<Step, AllocError>
 
 /// Where a name without a list stands, which is to be given a value.
 pub fn aim_step(alloc: Global, meaning: &Meaning) -> Result<Step, AllocError>
-    ensures { IfOk result (λ step. d.step_of step ≡ p.aim_step (m.meant_of meaning.now)) }
+    ensures { IfOk result (λ step. step ≡ p.aim_step (m.meant_of meaning.now)) }
 {
     match meaning {
         Meaning::Variable(_, base) => Ok(Step::Aim(copy_base(alloc, base)?)),
@@ -61,14 +53,14 @@ pub fn aim_step(alloc: Global, meaning: &Meaning) -> Result<Step, AllocError>
 }
 
 /// An element by its subscripts, and its value.
-#[tactic(auto, using(crate::proofs::Lists::joined))]
+#[tactic(auto, using(interp_data::proofs::Lists::joined))]
 pub fn add_element(
     alloc: Global,
     code: &mut List<Step>,
     ty: Ty,
     array: &Array,
 ) -> Result<(), AllocError>
-    ensures { OnOk result (p.steps_of code.new ≡ p.steps_of code.old ++ p.element_steps ty (d.array_of array.now)) }
+    ensures { OnOk result (code.new ≡ code.old ++ p.element_steps ty array.now) }
 {
     add(code, Step::Locate(copy_array(alloc, array)?))?;
     add(code, Step::Load(ty))

@@ -1,15 +1,14 @@
 //! The steps of targets, of READ's list and of PRINT's.
 ghost use Rattle.std.specs.Prelude.{◌≡◌, ◌+◌, ◌++◌, IfOk, OnOk};
-ghost use Rattle.interp_lower.specs.Meanings as m;
+ghost use Rattle.interp_data.specs.Meanings as m;
+ghost use Rattle.interp_data.specs.Meant.{meant};
 ghost use Rattle.interp_lower.specs.Pieces as p;
 
-use super::meaning::Meaning;
-use super::names::Names;
-use super::standing::copy_array;
-use super::steps::{add, aim_step, meaning_of};
+use super::steps::{add, aim_step};
 use super::terms::{push_applied, push_value, push_values};
 use f77_tree::{Expr, List, Name};
 use interp_code::Step;
+use interp_data::{Lookup, Meaning, copy_array, meaning_of};
 use std::alloc::{AllocError, Global};
 
 type Code = List<Step>;
@@ -19,12 +18,12 @@ type Code = List<Step>;
 pub fn push_target(
     alloc: Global,
     code: &mut Code,
-    names: &Names,
+    names: &Lookup,
     site: usize,
     e: &Expr,
 ) -> Result<usize, AllocError>
-    ensures next { IfOk result (λ next. next ≡ site + p.site_count (p.meant names.now) e.now) }
-    ensures steps { OnOk result (p.steps_of code.new ≡ p.steps_of code.old ++ p.target_steps (p.meant names.now) e.now site) }
+    ensures next { IfOk result (λ next. next ≡ site + p.site_count (meant names.now) e.now) }
+    ensures steps { OnOk result (code.new ≡ code.old ++ p.target_steps (meant names.now) e.now site) }
 {
     match e {
         Expr::Scalar(name) => {
@@ -53,10 +52,10 @@ pub fn push_target(
 fn push_bare_target(
     alloc: Global,
     code: &mut Code,
-    names: &Names,
+    names: &Lookup,
     name: &Name,
 ) -> Result<(), AllocError>
-    ensures { OnOk result (p.steps_of code.new ≡ p.steps_of code.old ++ p.bare_target_steps (p.meant names.now) name.now) }
+    ensures { OnOk result (code.new ≡ code.old ++ p.bare_target_steps (meant names.now) name.now) }
 {
     let meaning = meaning_of(alloc, names, name)?;
     let step = aim_step(alloc, &meaning)?;
@@ -67,13 +66,13 @@ fn push_bare_target(
 fn push_listed_target(
     alloc: Global,
     code: &mut Code,
-    names: &Names,
+    names: &Lookup,
     site: usize,
     meaning: &Meaning,
     list: &List<Expr>,
 ) -> Result<usize, AllocError>
-    ensures next { IfOk result (λ next. next ≡ site + p.applied_sites (p.meant names.now) (m.meant_of meaning.now) list.now) }
-    ensures steps { OnOk result (p.steps_of code.new ≡ p.steps_of code.old ++ p.listed_target_steps (p.meant names.now) (m.meant_of meaning.now) list.now site) }
+    ensures next { IfOk result (λ next. next ≡ site + p.applied_sites (meant names.now) (m.meant_of meaning.now) list.now) }
+    ensures steps { OnOk result (code.new ≡ code.old ++ p.listed_target_steps (meant names.now) (m.meant_of meaning.now) list.now site) }
 {
     match meaning {
         Meaning::Array(_, array) => {
@@ -99,12 +98,12 @@ fn push_listed_target(
 pub fn push_targets(
     alloc: Global,
     code: &mut Code,
-    names: &Names,
+    names: &Lookup,
     site: usize,
     list: &List<Expr>,
 ) -> Result<usize, AllocError>
-    ensures next { IfOk result (λ next. next ≡ site + p.site_total (p.meant names.now) list.now) }
-    ensures steps { OnOk result (p.steps_of code.new ≡ p.steps_of code.old ++ p.targets_steps (p.meant names.now) list.now site) }
+    ensures next { IfOk result (λ next. next ≡ site + p.site_total (meant names.now) list.now) }
+    ensures steps { OnOk result (code.new ≡ code.old ++ p.targets_steps (meant names.now) list.now site) }
 {
     let mut next = site;
     for e in list.as_slice() {
@@ -119,12 +118,12 @@ pub fn push_targets(
 fn push_item(
     alloc: Global,
     code: &mut Code,
-    names: &Names,
+    names: &Lookup,
     site: usize,
     e: &Expr,
 ) -> Result<usize, AllocError>
-    ensures next { IfOk result (λ next. next ≡ site + p.site_count (p.meant names.now) e.now) }
-    ensures steps { OnOk result (p.steps_of code.new ≡ p.steps_of code.old ++ p.item_steps (p.meant names.now) e.now site) }
+    ensures next { IfOk result (λ next. next ≡ site + p.site_count (meant names.now) e.now) }
+    ensures steps { OnOk result (code.new ≡ code.old ++ p.item_steps (meant names.now) e.now site) }
 {
     match e {
         Expr::Text(bytes) => {
@@ -148,12 +147,12 @@ fn push_item(
 pub fn push_items(
     alloc: Global,
     code: &mut Code,
-    names: &Names,
+    names: &Lookup,
     site: usize,
     list: &List<Expr>,
 ) -> Result<usize, AllocError>
-    ensures next { IfOk result (λ next. next ≡ site + p.site_total (p.meant names.now) list.now) }
-    ensures steps { OnOk result (p.steps_of code.new ≡ p.steps_of code.old ++ p.items_steps (p.meant names.now) list.now site) }
+    ensures next { IfOk result (λ next. next ≡ site + p.site_total (meant names.now) list.now) }
+    ensures steps { OnOk result (code.new ≡ code.old ++ p.items_steps (meant names.now) list.now site) }
 {
     let mut next = site;
     for e in list.as_slice() {

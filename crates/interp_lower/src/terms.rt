@@ -1,16 +1,14 @@
 //! The steps of expressions. Each function puts the steps of a part behind those that are there, from the number of the part's first site
 //! on, and gives the number of the site that follows.
 ghost use Rattle.std.specs.Prelude.{◌≡◌, ◌+◌, ◌++◌, IfOk, OnOk};
-ghost use Rattle.interp_code.specs.Denoted as d;
-ghost use Rattle.interp_lower.specs.Meanings as m;
+ghost use Rattle.interp_data.specs.Meanings as m;
+ghost use Rattle.interp_data.specs.Meant.{meant};
 ghost use Rattle.interp_lower.specs.Pieces as p;
 
-use super::meaning::Meaning;
-use super::names::Names;
-use super::standing::{copy_array, copy_base};
-use super::steps::{add, add_element, bare_step, following, meaning_of};
+use super::steps::{add, add_element, bare_step, following};
 use f77_tree::{Expr, List, Name, Value};
 use interp_code::Step;
+use interp_data::{Lookup, Meaning, copy_array, copy_base, meaning_of};
 use std::alloc::{AllocError, Global};
 
 type Code = List<Step>;
@@ -21,12 +19,12 @@ type Code = List<Step>;
 pub fn push_value(
     alloc: Global,
     code: &mut Code,
-    names: &Names,
+    names: &Lookup,
     site: usize,
     e: &Expr,
 ) -> Result<usize, AllocError>
-    ensures next { IfOk result (λ next. next ≡ site + p.site_count (p.meant names.now) e.now) }
-    ensures steps { OnOk result (p.steps_of code.new ≡ p.steps_of code.old ++ p.value_steps (p.meant names.now) e.now site) }
+    ensures next { IfOk result (λ next. next ≡ site + p.site_count (meant names.now) e.now) }
+    ensures steps { OnOk result (code.new ≡ code.old ++ p.value_steps (meant names.now) e.now site) }
 {
     match e {
         Expr::Int(n) => {
@@ -74,8 +72,8 @@ pub fn push_value(
     }
 }
 
-fn push_bare(alloc: Global, code: &mut Code, names: &Names, name: &Name) -> Result<(), AllocError>
-    ensures { OnOk result (p.steps_of code.new ≡ p.steps_of code.old ++ p.bare_steps (p.meant names.now) name.now) }
+fn push_bare(alloc: Global, code: &mut Code, names: &Lookup, name: &Name) -> Result<(), AllocError>
+    ensures { OnOk result (code.new ≡ code.old ++ p.bare_steps (meant names.now) name.now) }
 {
     let meaning = meaning_of(alloc, names, name)?;
     let step = bare_step(alloc, &meaning)?;
@@ -88,13 +86,13 @@ fn push_bare(alloc: Global, code: &mut Code, names: &Names, name: &Name) -> Resu
 pub fn push_applied(
     alloc: Global,
     code: &mut Code,
-    names: &Names,
+    names: &Lookup,
     site: usize,
     meaning: &Meaning,
     list: &List<Expr>,
 ) -> Result<usize, AllocError>
-    ensures next { IfOk result (λ next. next ≡ site + p.applied_sites (p.meant names.now) (m.meant_of meaning.now) list.now) }
-    ensures steps { OnOk result (p.steps_of code.new ≡ p.steps_of code.old ++ p.applied_steps (p.meant names.now) (m.meant_of meaning.now) list.now site) }
+    ensures next { IfOk result (λ next. next ≡ site + p.applied_sites (meant names.now) (m.meant_of meaning.now) list.now) }
+    ensures steps { OnOk result (code.new ≡ code.old ++ p.applied_steps (meant names.now) (m.meant_of meaning.now) list.now site) }
 {
     match meaning {
         Meaning::Array(ty, array) => {
@@ -129,12 +127,12 @@ pub fn push_applied(
 pub fn push_values(
     alloc: Global,
     code: &mut Code,
-    names: &Names,
+    names: &Lookup,
     site: usize,
     list: &List<Expr>,
 ) -> Result<usize, AllocError>
-    ensures next { IfOk result (λ next. next ≡ site + p.site_total (p.meant names.now) list.now) }
-    ensures steps { OnOk result (p.steps_of code.new ≡ p.steps_of code.old ++ p.values_steps (p.meant names.now) list.now site) }
+    ensures next { IfOk result (λ next. next ≡ site + p.site_total (meant names.now) list.now) }
+    ensures steps { OnOk result (code.new ≡ code.old ++ p.values_steps (meant names.now) list.now site) }
 {
     let mut next = site;
     for e in list.as_slice() {
@@ -149,13 +147,13 @@ pub fn push_values(
 pub fn push_actuals(
     alloc: Global,
     code: &mut Code,
-    names: &Names,
+    names: &Lookup,
     callee: usize,
     site: usize,
     list: &List<Expr>,
 ) -> Result<usize, AllocError>
-    ensures next { IfOk result (λ next. next ≡ site + p.site_total (p.meant names.now) list.now) }
-    ensures steps { OnOk result (p.steps_of code.new ≡ p.steps_of code.old ++ p.actuals_steps (p.meant names.now) callee 0 list.now site) }
+    ensures next { IfOk result (λ next. next ≡ site + p.site_total (meant names.now) list.now) }
+    ensures steps { OnOk result (code.new ≡ code.old ++ p.actuals_steps (meant names.now) callee 0 list.now site) }
 {
     let mut next = site;
     let actuals = list.as_slice();
@@ -171,14 +169,14 @@ pub fn push_actuals(
 fn push_actual(
     alloc: Global,
     code: &mut Code,
-    names: &Names,
+    names: &Lookup,
     callee: usize,
     position: usize,
     site: usize,
     e: &Expr,
 ) -> Result<usize, AllocError>
-    ensures next { IfOk result (λ next. next ≡ site + p.site_count (p.meant names.now) e.now) }
-    ensures steps { OnOk result (p.steps_of code.new ≡ p.steps_of code.old ++ p.actual_steps (p.meant names.now) callee position e.now site) }
+    ensures next { IfOk result (λ next. next ≡ site + p.site_count (meant names.now) e.now) }
+    ensures steps { OnOk result (code.new ≡ code.old ++ p.actual_steps (meant names.now) callee position e.now site) }
 {
     match e {
         Expr::Scalar(name) => {
@@ -212,7 +210,7 @@ fn push_bare_actual(
     position: usize,
     meaning: &Meaning,
 ) -> Result<(), AllocError>
-    ensures { OnOk result (p.steps_of code.new ≡ p.steps_of code.old ++ p.bare_actual_steps callee position (m.meant_of meaning.now)) }
+    ensures { OnOk result (code.new ≡ code.old ++ p.bare_actual_steps callee position (m.meant_of meaning.now)) }
 {
     match meaning {
         Meaning::Variable(_, base) => add(code, Step::Pass(copy_base(alloc, base)?)),
@@ -224,9 +222,9 @@ fn push_bare_actual(
     }
 }
 
-#[tactic(auto, using(crate::proofs::Lists::joined))]
+#[tactic(auto, using(interp_data::proofs::Lists::joined))]
 fn push_held(code: &mut Code, callee: usize, position: usize, value: Step) -> Result<(), AllocError>
-    ensures { OnOk result (p.steps_of code.new ≡ p.steps_of code.old ++ p.held_steps callee position (d.step_of value)) }
+    ensures { OnOk result (code.new ≡ code.old ++ p.held_steps callee position value) }
 {
     add(code, value)?;
     add(code, Step::Hold(callee, position))
@@ -238,15 +236,15 @@ fn push_held(code: &mut Code, callee: usize, position: usize, value: Step) -> Re
 fn push_listed_actual(
     alloc: Global,
     code: &mut Code,
-    names: &Names,
+    names: &Lookup,
     callee: usize,
     position: usize,
     site: usize,
     meaning: &Meaning,
     list: &List<Expr>,
 ) -> Result<usize, AllocError>
-    ensures next { IfOk result (λ next. next ≡ site + p.applied_sites (p.meant names.now) (m.meant_of meaning.now) list.now) }
-    ensures steps { OnOk result (p.steps_of code.new ≡ p.steps_of code.old ++ p.listed_actual_steps (p.meant names.now) callee position (m.meant_of meaning.now) list.now site) }
+    ensures next { IfOk result (λ next. next ≡ site + p.applied_sites (meant names.now) (m.meant_of meaning.now) list.now) }
+    ensures steps { OnOk result (code.new ≡ code.old ++ p.listed_actual_steps (meant names.now) callee position (m.meant_of meaning.now) list.now site) }
 {
     match meaning {
         Meaning::Array(_, array) => {

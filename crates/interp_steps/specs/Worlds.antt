@@ -1,7 +1,7 @@
--- The world that a machine stands for.
+-- The world that a state stands for.
 use Rattle.run_model.specs.Acts.{World}
 use Rattle.interp_cells.specs.Cells.{cells_of}
-use Rattle.interp_steps.specs.declared.machine.Machine.{Machine}
+use Rattle.interp_steps.specs.declared.state.State.{State}
 
-abbrev pub world_of : Machine → World
+abbrev pub world_of : State → World
 world_of m = record { cells = cells_of m.storage; out = m.out.items; input = m.input.now; left = m.left }

@@ -3,14 +3,13 @@ ghost use Rattle.std.specs.Prelude.{◌≡◌, ◌-ℤ◌, ◌++◌, ℕ, IfOk, 
 ghost use Rattle.run_model.specs.Acts as a;
 ghost use Rattle.f77_semantics.specs.Values as v;
 ghost use Rattle.f77_semantics.specs.Expressions as e;
-ghost use Rattle.interp_code.specs.Denoted.{array_of, bounds_of, extent_of};
 ghost use Rattle.interp_steps.specs.Frames.{frame_of};
 ghost use Rattle.interp_steps.specs.Stops.{Gives};
 
 use super::frame::Frame;
 use super::stop::Stop;
+use f77_semantics::{Array, Bounds, Extent};
 use f77_tree::{List, Value};
-use interp_code::{Array, Bounds, Extent};
 use std::alloc::{AllocError, Global};
 
 fn distance(subscript: i64, extent: &Extent) -> Option<u64>
@@ -37,7 +36,7 @@ fn with_others(size: u64, far: Option<u64>, others: Option<u64>) -> Result<Optio
 
 // The number of an element in its array's sequence. What can't be counted can't be stored.
 fn numbered(extents: &[Extent], subscripts: &[i64]) -> Result<Option<u64>, AllocError>
-    ensures { IfOk result (λ k. k ≡ e.numbered (map extent_of extents.now) subscripts.now) }
+    ensures { IfOk result (λ k. k ≡ e.numbered extents.now subscripts.now) }
 {
     match (extents.split_first(), subscripts.split_first()) {
         (None, None) => Ok(Some(0)),
@@ -53,7 +52,7 @@ static NO_SHAPE: [Extent; 1] = [Extent { lower: 1, size: 0 }];
 
 // The bounds of an array.
 fn shape<'b>(frame: &'b Frame, bounds: &'b Bounds) -> &'b [Extent]
-    ensures { map extent_of result.now ≡ e.shape (frame_of frame.now) (bounds_of bounds.now) }
+    ensures { result.now ≡ e.shape (frame_of frame.now) bounds.now }
 {
     match bounds {
         Bounds::Known(extents) => extents.as_slice(),
@@ -92,7 +91,7 @@ pub fn integers(alloc: Global, values: &[Value]) -> Result<List<i64>, Stop>
 }
 
 fn place_in(shape: &[Extent], subscripts: &[i64]) -> Result<usize, Stop>
-    ensures { Gives result (λ k. k) (v.or_fail (a.Undefined 2) (e.numbered (map extent_of shape.now) subscripts.now)) }
+    ensures { Gives result (λ k. k) (v.or_fail (a.Undefined 2) (e.numbered shape.now subscripts.now)) }
 {
     match numbered(shape, subscripts)? {
         Some(k) => Ok(k as usize),
@@ -102,7 +101,7 @@ fn place_in(shape: &[Extent], subscripts: &[i64]) -> Result<usize, Stop>
 
 /// The place in an array's sequence that subscripts name.
 pub fn element(alloc: Global, frame: &Frame, array: &Array, values: &[Value]) -> Result<usize, Stop>
-    ensures { Gives result (λ k. k) (e.element (frame_of frame.now) (array_of array.now) values.now) }
+    ensures { Gives result (λ k. k) (e.element (frame_of frame.now) array.now values.now) }
 {
     let subscripts = integers(alloc, values)?;
     place_in(shape(frame, &array.bounds), subscripts.as_slice())

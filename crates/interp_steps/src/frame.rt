@@ -2,12 +2,11 @@
 ghost use Rattle.std.specs.Prelude.{◌≡◌, ℕ, IfOk, map, slice_index_or};
 ghost use Rattle.f77_semantics.specs.Expressions as e;
 ghost use Rattle.interp_cells.specs.Spots.{loc_of};
-ghost use Rattle.interp_code.specs.Denoted.{base_of, array_of, extent_of};
 ghost use Rattle.interp_steps.specs.Frames.{interval_of, frame_of};
 
+use f77_semantics::{Array, Base, Extent};
 use f77_tree::{List, Name};
 use interp_cells::{Area, Spot};
-use interp_code::{Array, Base, Extent};
 use std::alloc::AllocError;
 
 /// Consecutive storage units of an area.
@@ -28,7 +27,7 @@ pub struct Frame<'a> {
 
 /// Where a name stands that has so many storage units.
 pub fn placed<'a>(frame: &Frame<'a>, base: &'a Base, length: usize) -> Interval<'a>
-    ensures { interval_of result ≡ e.interval (frame_of frame.now) (base_of base.now) length }
+    ensures { interval_of result ≡ e.interval (frame_of frame.now) base.now length }
 {
     match base {
         Base::Dummy(k) => match frame.actuals.get(*k as usize) {
@@ -54,7 +53,7 @@ pub fn placed<'a>(frame: &Frame<'a>, base: &'a Base, length: usize) -> Interval<
 
 /// Where an array stands.
 pub fn sequence<'a>(frame: &Frame<'a>, array: &'a Array) -> Interval<'a>
-    ensures { interval_of result ≡ e.sequence (frame_of frame.now) (array_of array.now) }
+    ensures { interval_of result ≡ e.sequence (frame_of frame.now) array.now }
 {
     placed(frame, &array.base, array.length as usize)
 }
@@ -84,7 +83,7 @@ pub fn rest<'a>(i: Interval<'a>, k: usize) -> Result<Interval<'a>, AllocError>
 
 /// The location of a scalar.
 pub fn scalar<'a>(frame: &Frame<'a>, base: &'a Base) -> Result<Spot<'a>, AllocError>
-    ensures { IfOk result (λ s. loc_of s ≡ e.scalar (frame_of frame.now) (base_of base.now)) }
+    ensures { IfOk result (λ s. loc_of s ≡ e.scalar (frame_of frame.now) base.now) }
 {
     spot_at(placed(frame, base, 1), 0)
 }

@@ -4,12 +4,12 @@
 mod elements;
 mod frame;
 mod intrinsics;
-mod machine;
 mod operand;
 mod operations;
 mod pushes;
 mod reads;
 mod results;
+mod state;
 mod steps;
 mod stop;
 mod stores;
@@ -17,9 +17,9 @@ mod value;
 
 pub use elements::element;
 pub use frame::{Frame, Interval, scalar};
-pub use machine::Machine;
 pub use operand::{Operand, pop_item, pop_passed, pop_place, push};
 pub use results::push_answer;
+pub use state::State;
 pub use steps::step;
 pub use stop::Stop;
 pub use value::{as_number, as_truth};

@@ -2,13 +2,13 @@
 ghost use Rattle.std.specs.Prelude.{◌≡◌};
 ghost use Rattle.run_model.specs.Acts.{and_then};
 ghost use Rattle.f77_tree.specs.declared.unit.Value.TheVariants.{Integer};
-ghost use Rattle.interp_code.specs.Denoted.{array_of};
 ghost use Rattle.interp_code.specs.Steps as c;
 ghost use Rattle.f77_semantics.specs.Expressions as e;
 ghost use Rattle.f77_semantics.specs.Values as v;
 ghost use Rattle.interp_steps.specs.Frames.{frame_of};
 ghost use Rattle.interp_steps.specs.Stacks.{stack_of};
 ghost use Rattle.interp_steps.specs.Stops.{Gives};
+ghost use Rattle.interp_code.specs.declared.step.Step.TheVariants.{Compute, Deny, Keep, Locate, Negate, Number, Operate, PassRest};
 
 use super::elements::{element, integers};
 use super::frame::{Frame, rest, sequence, spot_at};
@@ -17,14 +17,14 @@ use super::operand::{Operand, pop_item, pop_items, push};
 use super::stop::Stop;
 use super::value::{as_number, operated, or_stuck};
 use f77_names::Intrinsic;
+use f77_semantics::Array;
 use f77_tree::{Op, Value};
 use f77_values::{deny, keep, negate};
-use interp_code::Array;
 use std::alloc::Global;
 
 /// The value of an operator between two values.
 pub fn operate_step(op: Op, stack: &mut Vec<Operand>) -> Result<(), Stop>
-    ensures { (f : e.Frame) → Gives result (λ _. stack_of stack.new.items) (c.step f (c.Operate op) (stack_of stack.old.items)) }
+    ensures { (f : e.Frame) → Gives result (λ _. stack_of stack.new.items) (c.step f (Operate op) (stack_of stack.old.items)) }
 {
     let y = pop_item(stack).ok_or(Stop::Stuck)?;
     let x = pop_item(stack).ok_or(Stop::Stuck)?;
@@ -35,7 +35,7 @@ pub fn operate_step(op: Op, stack: &mut Vec<Operand>) -> Result<(), Stop>
 
 /// A value that is to be an integer.
 pub fn keep_step(stack: &mut Vec<Operand>) -> Result<(), Stop>
-    ensures { (f : e.Frame) → Gives result (λ _. stack_of stack.new.items) (c.step f c.Keep (stack_of stack.old.items)) }
+    ensures { (f : e.Frame) → Gives result (λ _. stack_of stack.new.items) (c.step f Keep (stack_of stack.old.items)) }
 {
     let x = pop_item(stack).ok_or(Stop::Stuck)?;
     let z = or_stuck(keep(x))?;
@@ -45,7 +45,7 @@ pub fn keep_step(stack: &mut Vec<Operand>) -> Result<(), Stop>
 
 /// A value with its sign changed.
 pub fn negate_step(stack: &mut Vec<Operand>) -> Result<(), Stop>
-    ensures { (f : e.Frame) → Gives result (λ _. stack_of stack.new.items) (c.step f c.Negate (stack_of stack.old.items)) }
+    ensures { (f : e.Frame) → Gives result (λ _. stack_of stack.new.items) (c.step f Negate (stack_of stack.old.items)) }
 {
     let x = pop_item(stack).ok_or(Stop::Stuck)?;
     let z = or_stuck(negate(x))?;
@@ -55,7 +55,7 @@ pub fn negate_step(stack: &mut Vec<Operand>) -> Result<(), Stop>
 
 /// The other truth value.
 pub fn deny_step(stack: &mut Vec<Operand>) -> Result<(), Stop>
-    ensures { (f : e.Frame) → Gives result (λ _. stack_of stack.new.items) (c.step f c.Deny (stack_of stack.old.items)) }
+    ensures { (f : e.Frame) → Gives result (λ _. stack_of stack.new.items) (c.step f Deny (stack_of stack.old.items)) }
 {
     let x = pop_item(stack).ok_or(Stop::Stuck)?;
     let z = or_stuck(deny(x))?;
@@ -65,7 +65,7 @@ pub fn deny_step(stack: &mut Vec<Operand>) -> Result<(), Stop>
 
 /// A value that is to be a number.
 pub fn number_step(stack: &mut Vec<Operand>) -> Result<(), Stop>
-    ensures { (f : e.Frame) → Gives result (λ _. stack_of stack.new.items) (c.step f c.Number (stack_of stack.old.items)) }
+    ensures { (f : e.Frame) → Gives result (λ _. stack_of stack.new.items) (c.step f Number (stack_of stack.old.items)) }
 {
     let x = pop_item(stack).ok_or(Stop::Stuck)?;
     let n = as_number(x)?;
@@ -81,7 +81,7 @@ fn push_place<'a>(
     values: &[Value],
     stack: &mut Vec<Operand<'a>>,
 ) -> Result<(), Stop>
-    ensures { Gives result (λ _. stack_of stack.new.items) (and_then (e.element (frame_of frame.now) (array_of array.now) values.now) (λ k. c.push (stack_of stack.old.items) (c.Place (e.at (e.sequence (frame_of frame.now) (array_of array.now)) k)))) }
+    ensures { Gives result (λ _. stack_of stack.new.items) (and_then (e.element (frame_of frame.now) array.now values.now) (λ k. c.push (stack_of stack.old.items) (c.Place (e.at (e.sequence (frame_of frame.now) array.now) k)))) }
 {
     let k = element(alloc, frame, array, values)?;
     let spot = spot_at(sequence(frame, array), k)?;
@@ -97,7 +97,7 @@ fn push_rest<'a>(
     values: &[Value],
     stack: &mut Vec<Operand<'a>>,
 ) -> Result<(), Stop>
-    ensures { Gives result (λ _. stack_of stack.new.items) (and_then (e.element (frame_of frame.now) (array_of array.now) values.now) (λ k. c.push (stack_of stack.old.items) (c.Passed (e.rest (e.sequence (frame_of frame.now) (array_of array.now)) k)))) }
+    ensures { Gives result (λ _. stack_of stack.new.items) (and_then (e.element (frame_of frame.now) array.now values.now) (λ k. c.push (stack_of stack.old.items) (c.Passed (e.rest (e.sequence (frame_of frame.now) array.now) k)))) }
 {
     let k = element(alloc, frame, array, values)?;
     let left = rest(sequence(frame, array), k)?;
@@ -112,7 +112,7 @@ pub fn locate_step<'a>(
     array: &'a Array,
     stack: &mut Vec<Operand<'a>>,
 ) -> Result<(), Stop>
-    ensures { Gives result (λ _. stack_of stack.new.items) (c.step (frame_of frame.now) (c.Locate (array_of array.now)) (stack_of stack.old.items)) }
+    ensures { Gives result (λ _. stack_of stack.new.items) (c.step (frame_of frame.now) (Locate array.now) (stack_of stack.old.items)) }
 {
     let subscripts = pop_items(alloc, stack)?.ok_or(Stop::Stuck)?;
     push_place(alloc, frame, array, subscripts.as_slice(), stack)
@@ -125,7 +125,7 @@ pub fn rest_step<'a>(
     array: &'a Array,
     stack: &mut Vec<Operand<'a>>,
 ) -> Result<(), Stop>
-    ensures { Gives result (λ _. stack_of stack.new.items) (c.step (frame_of frame.now) (c.PassRest (array_of array.now)) (stack_of stack.old.items)) }
+    ensures { Gives result (λ _. stack_of stack.new.items) (c.step (frame_of frame.now) (PassRest array.now) (stack_of stack.old.items)) }
 {
     let subscripts = pop_items(alloc, stack)?.ok_or(Stop::Stuck)?;
     push_rest(alloc, frame, array, subscripts.as_slice(), stack)
@@ -148,7 +148,7 @@ fn push_computed(
 
 /// The value of an intrinsic function of the values on the stack.
 pub fn compute_step(alloc: Global, which: Intrinsic, stack: &mut Vec<Operand>) -> Result<(), Stop>
-    ensures { (f : e.Frame) → Gives result (λ _. stack_of stack.new.items) (c.step f (c.Compute which) (stack_of stack.old.items)) }
+    ensures { (f : e.Frame) → Gives result (λ _. stack_of stack.new.items) (c.step f (Compute which) (stack_of stack.old.items)) }
 {
     let values = pop_items(alloc, stack)?.ok_or(Stop::Stuck)?;
     push_computed(alloc, which, values.as_slice(), stack)

@@ -8,11 +8,13 @@ use Rattle.f77_tree.specs.declared.unit.Value.TheVariants.{Integer, Logical}
 use Rattle.f77_flow.specs.Blocks as b
 use Rattle.f77_flow.specs.Graph as g
 use Rattle.f77_flow.specs.Graph.{At, Inside}
-use Rattle.f77_semantics.specs.Program.{Base, Routine}
+use Rattle.f77_semantics.specs.Program.{Routine}
+use Rattle.f77_semantics.specs.declared.storage.Base.{Base}
+use Rattle.interp_code.specs.declared.ending.Ending.TheVariants.{Branch, Choose, Count, Guard, Halt, Jump, Leave, Next, Sign, Store, Write}
 use Rattle.f77_semantics.specs.Expressions.{Frame, store}
 use Rattle.f77_semantics.specs.Statements.{Here, by_sign, chosen, say_record, to, to_chosen, return}
 use Rattle.interp_code.specs.Steps.{Operands, Item, Place, operands_onto, said}
-use Rattle.interp_code.specs.Endings.{Store, Branch, Guard, Sign, Jump, Choose, Count, Next, Leave, Halt, Write, begun, finish}
+use Rattle.interp_code.specs.Endings.{begun, finish}
 use Rattle.interp_turns.specs.Flows.{Follows}
 use Rattle.interp_turns.specs.Operands.{nothing, assigned, truth, number, three}
 

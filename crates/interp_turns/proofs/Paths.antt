@@ -6,7 +6,8 @@ use Rattle.run_model.specs.Turns.{After, Again}
 use Rattle.f77_tree.specs.declared.unit.Ty.TheVariants as ty
 use Rattle.f77_tree.specs.declared.unit.Value.TheVariants.{Integer}
 use Rattle.f77_values.specs.Arithmetic.{wrap}
-use Rattle.f77_semantics.specs.Program.{Base, Term, Do, Routine}
+use Rattle.f77_semantics.specs.Program.{Term, Do, Routine}
+use Rattle.f77_semantics.specs.declared.storage.Base.{Base}
 use Rattle.f77_semantics.specs.Expressions.{Frame, fetch, store, scalar}
 use Rattle.f77_semantics.specs.Statements as running
 use Rattle.f77_semantics.specs.Statements.{as_number, set_loop, tested, advance, trips}
@@ -14,7 +15,7 @@ use Rattle.f77_flow.specs.Graph.{Test}
 use Rattle.interp_code.specs.Endings.{begun}
 use Rattle.interp_code.proofs.Acts.{assoc}
 use Rattle.interp_steps.specs.declared.stop.Stop.{Stop}
-use Rattle.interp_steps.specs.declared.machine.Machine.{Machine}
+use Rattle.interp_steps.specs.declared.state.State.{State}
 use Rattle.interp_steps.specs.Stops.{Gives}
 use Rattle.interp_steps.specs.Worlds.{world_of}
 use Rattle.interp_steps.proofs.Plays.{moved}
@@ -27,11 +28,11 @@ always (Ok x) p = p
 always (Err e) p = tt
 
 module _ (r : Result Turn Stop) (here : Here) where
-  pub by_path : (old new : Machine) (a b : Act (After running.Here)) → a ≡ b → Turns r here old new a → Turns r here old new b
+  pub by_path : (old new : State) (a b : Act (After running.Here)) → a ≡ b → Turns r here old new a → Turns r here old new b
   by_path old new a b e turns = subst (λ (act : Act (After running.Here)). Turns r here old new act) e turns
 
-  pub by_pure : (machine : Machine) (a b : Act (After running.Here)) → a ≡ b → Gives r (λ t. after_of t here) a → Turns r here machine machine b
-  by_pure machine a b e gives = λ h. moved r (λ t. after_of t here) b (subst (λ (act : Act (After running.Here)). Gives r (λ t. after_of t here) act) e gives) h (world_of machine)
+  pub by_pure : (state : State) (a b : Act (After running.Here)) → a ≡ b → Gives r (λ t. after_of t here) a → Turns r here state state b
+  by_pure state a b e gives = λ h. moved r (λ t. after_of t here) b (subst (λ (act : Act (After running.Here)). Gives r (λ t. after_of t here) act) e gives) h (world_of state)
 
 -- the DO at k after its advance
 abbrev pub stepped : ℕ → running.Here → running.Here

@@ -5,7 +5,7 @@ use Rattle.run_model.specs.Turns as turns
 use Rattle.f77_semantics.specs.Statements as running
 use Rattle.f77_semantics.specs.Values.{stored}
 use Rattle.interp_steps.specs.declared.stop.Stop.{Stop}
-use Rattle.interp_steps.specs.declared.machine.Machine.{Machine}
+use Rattle.interp_steps.specs.declared.state.State.{State}
 use Rattle.interp_steps.specs.Stops.{Ends}
 use Rattle.interp_steps.specs.Worlds.{world_of}
 use Rattle.interp_turns.specs.declared.here.Here.{Here}
@@ -17,5 +17,5 @@ abbrev pub after_of : Turn → Here → turns.After running.Here
 after_of Again h = turns.Again (here_of h)
 after_of (Returns v) h = turns.Result (option_map stored v)
 
-abbrev pub Turns : Result Turn Stop → Here → (old new : Machine) → Act (turns.After running.Here) → Type 0
+abbrev pub Turns : Result Turn Stop → Here → (old new : State) → Act (turns.After running.Here) → Type 0
 Turns r here old new act = (h : Handler) → Ends r (λ t. after_of t here) (world_of new) (play h act (world_of old))

@@ -7,7 +7,6 @@ ghost use Rattle.f77_semantics.specs.Expressions as e;
 ghost use Rattle.f77_semantics.specs.Program as p;
 ghost use Rattle.f77_semantics.specs.Statements as s;
 ghost use Rattle.interp_cells.specs.Spots.{loc_of};
-ghost use Rattle.interp_code.specs.Denoted.{base_of, ending_of};
 ghost use Rattle.interp_code.specs.Endings as c;
 ghost use Rattle.interp_code.specs.Steps.{operands_onto, said};
 ghost use Rattle.interp_steps.specs.Frames.{frame_of};
@@ -26,10 +25,11 @@ use super::record::say_record_from;
 use super::returns::answer;
 use super::turn::Turn;
 use f77_flow::Control;
+use f77_semantics::Base;
 use f77_tree::{List, Ty, Value};
 use interp_cells::Spot;
-use interp_code::{Base, Ending};
-use interp_steps::{Frame, Machine, Operand, Stop};
+use interp_code::Ending;
+use interp_steps::{Frame, Operand, State, Stop};
 use std::alloc::Global;
 
 fn jump(target: u32, here: &mut Here, stack: &[Operand]) -> Result<Turn, Stop>
@@ -155,13 +155,13 @@ fn store<'a>(
     value: Value,
     spot: Spot<'a>,
     here: &mut Here,
-    machine: &mut Machine,
+    state: &mut State,
 ) -> Result<Turn, Stop>
     requires { k < length control.now.statements.now }
-    ensures turn { Turns result here.new machine.old machine.new (a.and_then (e.store (loc_of spot.entry) value) (λ _. s.to (g.after control.now.statements.now k) (here_of here.old))) }
+    ensures turn { Turns result here.new state.old state.new (a.and_then (e.store (loc_of spot.entry) value) (λ _. s.to (g.after control.now.statements.now k) (here_of here.old))) }
     ensures stands { Stands (length control.now.statements.now) here.old → Stands (length control.now.statements.now) here.new }
 {
-    match machine.store(alloc, spot, value) {
+    match state.store(alloc, spot, value) {
         Ok(()) => {
             here.point = after(control, k);
             Ok(Turn::Again)
@@ -177,14 +177,14 @@ fn assign(
     k: usize,
     stack: &[Operand],
     here: &mut Here,
-    machine: &mut Machine,
+    state: &mut State,
 ) -> Result<Turn, Stop>
     requires { k < length control.now.statements.now }
-    ensures turn { Turns result here.new machine.old machine.new (a.and_then (o.assigned (stack_of stack.now)) (λ p. a.and_then (e.store p.1 p.0) (λ _. s.to (g.after control.now.statements.now k) (here_of here.old)))) }
+    ensures turn { Turns result here.new state.old state.new (a.and_then (o.assigned (stack_of stack.now)) (λ p. a.and_then (e.store p.1 p.0) (λ _. s.to (g.after control.now.statements.now k) (here_of here.old)))) }
     ensures stands { Stands (length control.now.statements.now) here.old → Stands (length control.now.statements.now) here.new }
 {
     match assigned(stack) {
-        Ok(pair) => store(alloc, control, k, pair.0, pair.1, here, machine),
+        Ok(pair) => store(alloc, control, k, pair.0, pair.1, here, state),
         Err(stop) => Err(stop),
     }
 }
@@ -197,15 +197,15 @@ fn count<'a>(
     k: usize,
     stack: &[Operand],
     here: &mut Here,
-    machine: &mut Machine,
+    state: &mut State,
 ) -> Result<Turn, Stop>
     requires { k < length here.old.loops.items }
-    ensures turn { Turns result here.new machine.old machine.new (a.and_then (o.three (stack_of stack.now)) (λ m. c.begun (frame_of frame.now) (here_of here.old) k (base_of base.now) m.0 m.1 m.2)) }
+    ensures turn { Turns result here.new state.old state.new (a.and_then (o.three (stack_of stack.now)) (λ m. c.begun (frame_of frame.now) (here_of here.old) k base.now m.0 m.1 m.2)) }
     ensures stands { OnOk result (Stands (length here.old.loops.items) here.new) }
 {
     match three(stack) {
         Ok(numbers) => begin(
-            alloc, frame, base, k, numbers.0, numbers.1, numbers.2, here, machine,
+            alloc, frame, base, k, numbers.0, numbers.1, numbers.2, here, state,
         ),
         Err(stop) => Err(stop),
     }
@@ -217,12 +217,12 @@ fn leave<'a>(
     variable: Option<(Ty, &'a Base)>,
     stack: &[Operand],
     here: &Here,
-    machine: &Machine,
+    state: &State,
 ) -> Result<Turn, Stop>
-    ensures { Turns result here.now machine.now machine.now (a.and_then (o.nothing (stack_of stack.now)) (λ _. s.return (frame_of frame.now) (option_map variable_of variable.entry))) }
+    ensures { Turns result here.now state.now state.now (a.and_then (o.nothing (stack_of stack.now)) (λ _. s.return (frame_of frame.now) (option_map variable_of variable.entry))) }
 {
     match nothing(stack) {
-        Ok(()) => answer(frame, variable, here, machine),
+        Ok(()) => answer(frame, variable, here, state),
         Err(stop) => Err(stop),
     }
 }
@@ -233,13 +233,13 @@ fn write(
     k: usize,
     here: &mut Here,
     stack: &[Operand],
-    machine: &mut Machine,
+    state: &mut State,
 ) -> Result<Turn, Stop>
     requires { k < length control.now.statements.now }
-    ensures turn { Turns result here.new machine.old machine.new (a.and_then (s.say_record (flat_map said (operands_onto (stack_of stack.now) []))) (λ _. s.to (g.after control.now.statements.now k) (here_of here.old))) }
+    ensures turn { Turns result here.new state.old state.new (a.and_then (s.say_record (flat_map said (operands_onto (stack_of stack.now) []))) (λ _. s.to (g.after control.now.statements.now k) (here_of here.old))) }
     ensures stands { Stands (length control.now.statements.now) here.old → Stands (length control.now.statements.now) here.new }
 {
-    say_record_from(false, stack, machine)?;
+    say_record_from(false, stack, state)?;
     here.point = after(control, k);
     Ok(Turn::Again)
 }
@@ -254,25 +254,25 @@ pub fn finish<'a>(
     ending: &'a Ending,
     stack: &[Operand<'a>],
     here: &mut Here,
-    machine: &mut Machine,
+    state: &mut State,
 ) -> Result<Turn, Stop>
     requires statement { k < length control.now.statements.now }
     requires stands { Stands (length control.now.statements.now) here.old }
-    ensures turn { (u : p.Routine) → Follows u control.now.statements.now → u.result ≡ option_map variable_of variable.entry → Turns result here.new machine.old machine.new (c.finish u (frame_of frame.now) (here_of here.old) k (ending_of ending.now) (stack_of stack.now)) }
+    ensures turn { (u : p.Routine) → Follows u control.now.statements.now → u.result ≡ option_map variable_of variable.entry → Turns result here.new state.old state.new (c.finish u (frame_of frame.now) (here_of here.old) k ending.now (stack_of stack.now)) }
     ensures stands { OnOk result (Stands (length control.now.statements.now) here.new) }
 {
     match ending {
-        Ending::Store => assign(alloc, control, k, stack, here, machine),
+        Ending::Store => assign(alloc, control, k, stack, here, state),
         Ending::Branch(otherwise) => branch(control, k, *otherwise, here, stack),
         Ending::Guard => guard(control, k, here, stack),
         Ending::Sign(negative, zero, positive) => { sign(*negative, *zero, *positive, here, stack) }
         Ending::Jump(target) => jump(*target, here, stack),
         Ending::Choose(targets) => choose(control, k, targets, here, stack),
-        Ending::Count(base) => count(alloc, frame, base, k, stack, here, machine),
+        Ending::Count(base) => count(alloc, frame, base, k, stack, here, state),
         Ending::Next => next(control, k, here, stack),
-        Ending::Leave => leave(frame, variable, stack, here, machine),
+        Ending::Leave => leave(frame, variable, stack, here, state),
         Ending::Halt => halt(here, stack),
-        Ending::Write => write(control, k, here, stack, machine),
+        Ending::Write => write(control, k, here, stack, state),
         Ending::Nowhere => Err(Stop::Stuck),
     }
 }

@@ -10,7 +10,6 @@ ghost use Rattle.f77_semantics.specs.Expressions as e;
 ghost use Rattle.f77_semantics.specs.Program as p;
 ghost use Rattle.f77_semantics.specs.Statements as s;
 ghost use Rattle.interp_cells.specs.Spots.{loc_of};
-ghost use Rattle.interp_code.specs.Denoted.{base_of};
 ghost use Rattle.interp_code.specs.Endings as c;
 ghost use Rattle.interp_steps.specs.Frames.{frame_of};
 ghost use Rattle.interp_steps.specs.Stops.{Ends};
@@ -23,11 +22,11 @@ use super::flow::leaving;
 use super::here::{Here, Loop, Point};
 use super::turn::Turn;
 use f77_flow::Control;
+use f77_semantics::Base;
 use f77_tree::{Op, Ty, Value};
 use f77_values::operate;
 use interp_cells::Spot;
-use interp_code::Base;
-use interp_steps::{Frame, Machine, Stop, as_number, scalar};
+use interp_steps::{Frame, State, Stop, as_number, scalar};
 use std::alloc::Global;
 
 /// The test of the DO at k: its range begins, or it is left.
@@ -89,22 +88,22 @@ fn store_sum(
     spot: Spot,
     value: Value,
     step: i64,
-    machine: &mut Machine,
+    state: &mut State,
 ) -> Result<(), Stop>
-    ensures { (h : a.Handler) → Ends result (λ _. tt) (world_of machine.new) (a.play h (a.and_then (s.as_number value) (λ n. e.store (loc_of spot.entry) (v.Integer (wrap (n +ℤ step))))) (world_of machine.old)) }
+    ensures { (h : a.Handler) → Ends result (λ _. tt) (world_of state.new) (a.play h (a.and_then (s.as_number value) (λ n. e.store (loc_of spot.entry) (v.Integer (wrap (n +ℤ step))))) (world_of state.old)) }
 {
     match as_number(value) {
-        Ok(n) => machine.store(alloc, spot, Value::Integer(sum(n, step))),
+        Ok(n) => state.store(alloc, spot, Value::Integer(sum(n, step))),
         Err(stop) => Err(stop),
     }
 }
 
 // Adds to the variable of a DO, as it stands in its cell.
-fn add_to(alloc: Global, spot: Spot, step: i64, machine: &mut Machine) -> Result<(), Stop>
-    ensures { (h : a.Handler) → Ends result (λ _. tt) (world_of machine.new) (a.play h (a.and_then (e.fetch ty.Integer (loc_of spot.entry)) (λ x. a.and_then (s.as_number x) (λ n. e.store (loc_of spot.entry) (v.Integer (wrap (n +ℤ step)))))) (world_of machine.old)) }
+fn add_to(alloc: Global, spot: Spot, step: i64, state: &mut State) -> Result<(), Stop>
+    ensures { (h : a.Handler) → Ends result (λ _. tt) (world_of state.new) (a.play h (a.and_then (e.fetch ty.Integer (loc_of spot.entry)) (λ x. a.and_then (s.as_number x) (λ n. e.store (loc_of spot.entry) (v.Integer (wrap (n +ℤ step)))))) (world_of state.old)) }
 {
-    match machine.fetch(Ty::Integer, spot) {
-        Ok(value) => store_sum(alloc, spot, value, step, machine),
+    match state.fetch(Ty::Integer, spot) {
+        Ok(value) => store_sum(alloc, spot, value, step, state),
         Err(stop) => Err(stop),
     }
 }
@@ -127,16 +126,16 @@ pub fn advance<'a>(
     base: &'a Base,
     k: usize,
     here: &mut Here,
-    machine: &mut Machine,
+    state: &mut State,
 ) -> Result<Turn, Stop>
     requires statement { k < length control.now.statements.now }
     requires stands { Stands (length control.now.statements.now) here.old }
-    ensures turn { (u : p.Routine) → Follows u control.now.statements.now → (first last : p.Term) → (step : Option p.Term) → Turns result here.new machine.old machine.new (s.advance u (frame_of frame.now) (here_of here.old) k (p.Do (base_of base.now) first last step)) }
+    ensures turn { (u : p.Routine) → Follows u control.now.statements.now → (first last : p.Term) → (step : Option p.Term) → Turns result here.new state.old state.new (s.advance u (frame_of frame.now) (here_of here.old) k (p.Do base.now first last step)) }
     ensures stands { OnOk result (Stands (length control.now.statements.now) here.new) }
 {
     let left = here.get(k);
     let spot = scalar(frame, base)?;
-    match add_to(alloc, spot, left.step, machine) {
+    match add_to(alloc, spot, left.step, state) {
         Ok(()) => {
             here.set(k, less(left));
             tested(control, k, here);
@@ -162,17 +161,17 @@ pub fn begin<'a>(
     last: i64,
     step: i64,
     here: &mut Here,
-    machine: &mut Machine,
+    state: &mut State,
 ) -> Result<Turn, Stop>
     requires { k < length here.old.loops.items }
-    ensures turn { Turns result here.new machine.old machine.new (c.begun (frame_of frame.now) (here_of here.old) k (base_of base.now) first last step) }
+    ensures turn { Turns result here.new state.old state.new (c.begun (frame_of frame.now) (here_of here.old) k base.now first last step) }
     ensures stands { OnOk result (Stands (length here.old.loops.items) here.new) }
 {
     if is_zero(step) {
         return Err(Stop::Undefined(6));
     }
     let spot = scalar(frame, base)?;
-    match machine.store(alloc, spot, Value::Integer(first)) {
+    match state.store(alloc, spot, Value::Integer(first)) {
         Ok(()) => {
             here.set(
                 k,

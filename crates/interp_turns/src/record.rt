@@ -6,35 +6,35 @@ ghost use Rattle.interp_steps.specs.Worlds.{world_of};
 ghost use Rattle.interp_turns.specs.Records as r;
 
 use f77_tree::Value;
-use interp_steps::{Machine, Operand};
+use interp_steps::{Operand, State};
 use itoa::Buffer;
 use std::alloc::AllocError;
 
-fn say_value(value: Value, machine: &mut Machine) -> Result<(), AllocError>
-    ensures { OnOk result (world_of machine.new ≡ record (world_of machine.old) { out = machine.old.out.items ++ written value }) }
+fn say_value(value: Value, state: &mut State) -> Result<(), AllocError>
+    ensures { OnOk result (world_of state.new ≡ record (world_of state.old) { out = state.old.out.items ++ written value }) }
 {
     match value {
-        Value::Integer(n) => machine.say(Buffer::new().format(n).as_bytes()),
-        Value::Logical(true) => machine.say(b"T"),
-        Value::Logical(false) => machine.say(b"F"),
+        Value::Integer(n) => state.say(Buffer::new().format(n).as_bytes()),
+        Value::Logical(true) => state.say(b"T"),
+        Value::Logical(false) => state.say(b"F"),
     }
 }
 
 // Writes an operand behind a blank, and says whether it has a text.
 #[tactic(auto, using(std::proofs::lemmas::List::append_assoc))]
-fn say_operand(operand: &Operand, machine: &mut Machine) -> Result<bool, AllocError>
-    ensures world { OnOk result (world_of machine.new ≡ record (world_of machine.old) { out = machine.old.out.items ++ r.text (operand_of operand.now) }) }
+fn say_operand(operand: &Operand, state: &mut State) -> Result<bool, AllocError>
+    ensures world { OnOk result (world_of state.new ≡ record (world_of state.old) { out = state.old.out.items ++ r.text (operand_of operand.now) }) }
     ensures shown { IfOk result (λ any. any ≡ r.is_shown (operand_of operand.now)) }
 {
     match operand {
         Operand::Item(value) => {
-            machine.say(b" ")?;
-            say_value(*value, machine)?;
+            state.say(b" ")?;
+            say_value(*value, state)?;
             Ok(true)
         }
         Operand::Bytes(bytes) => {
-            machine.say(b" ")?;
-            machine.say(bytes)?;
+            state.say(b" ")?;
+            state.say(bytes)?;
             Ok(true)
         }
         _ => Ok(false),
@@ -43,24 +43,20 @@ fn say_operand(operand: &Operand, machine: &mut Machine) -> Result<bool, AllocEr
 
 /// Writes what is left of a record, of which there is something already or not.
 #[tactic(auto, using(std::proofs::lemmas::List::append_assoc))]
-pub fn say_record_from(
-    any: bool,
-    operands: &[Operand],
-    machine: &mut Machine,
-) -> Result<(), AllocError>
-    ensures { OnOk result (world_of machine.new ≡ record (world_of machine.old) { out = machine.old.out.items ++ r.record_from any (map operand_of operands.now) }) }
+pub fn say_record_from(any: bool, operands: &[Operand], state: &mut State) -> Result<(), AllocError>
+    ensures { OnOk result (world_of state.new ≡ record (world_of state.old) { out = state.old.out.items ++ r.record_from any (map operand_of operands.now) }) }
 {
     match operands.split_first() {
         None => {
             if any {
-                machine.say(b"\n")
+                state.say(b"\n")
             } else {
-                machine.say(b" \n")
+                state.say(b" \n")
             }
         }
         Some((operand, others)) => {
-            let shown = say_operand(operand, machine)?;
-            say_record_from(any | shown, others, machine)
+            let shown = say_operand(operand, state)?;
+            say_record_from(any | shown, others, state)
         }
     }
 }

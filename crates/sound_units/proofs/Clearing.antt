@@ -13,8 +13,8 @@ use Rattle.check_types.specs.Overreaching.{overreaches}
 use Rattle.check_types.specs.TypeFaults.{statement_breaks, BreaksAt, OverreachesAt, wrong_type, no_scalar, no_target, wrong_exponent}
 use Rattle.check_constants.specs.Defined.{nothing, with_statement}
 use Rattle.check_constants.specs.Needed.{statement_lacks}
-use Rattle.check_constants.specs.ValueFaults.{NeedsConstant, in_commons, needs_constant}
-use Rattle.f77_check.specs.UnitFaults.{IsSound, of_names, of_types, of_values}
+use Rattle.check_constants.specs.Faults.{NeedsConstant, in_commons}
+use Rattle.f77_check.specs.UnitFaults.{IsSound, of_names, of_types, of_constants}
 use Rattle.fault_marks.specs.declared.marks.Mark.{Mark}
 use Rattle.fault_marks.specs.Places.{ShowsAt}
 use Rattle.sound_units.proofs.Lists.{untrue}
@@ -45,7 +45,7 @@ module _ (u : SourceUnit) (sound : IsSound u) where
   -- fault 22
   pub not_lacking : (k : ℕ) (s : Stmt) → slice_get u.statements k ≡ Some s → statement_lacks (facts u) (in_commons u) (fold with_statement nothing (take k u.statements)) s ≡ false
   not_lacking k s e =
-      clear u.statements (statement_lacks (facts u) (in_commons u) (fold with_statement nothing (take k u.statements))) (NeedsConstant u) 22 0 (λ m h. sound.none m (of_values (needs_constant h))) k s e (λ t. record { statement = s; stands = e; holds_there = t })
+      clear u.statements (statement_lacks (facts u) (in_commons u) (fold with_statement nothing (take k u.statements))) (NeedsConstant u) 22 0 (λ m h. sound.none m (of_constants h)) k s e (λ t. record { statement = s; stands = e; holds_there = t })
 
   -- fault 37 of an array
   pub not_large : (k : ℕ) (s : Stmt) → slice_get u.statements k ≡ Some s → has_large (facts u).attributes (constants (take k u.statements)) (out-Form s.form) ≡ false

@@ -33,7 +33,7 @@ use Rattle.check_types.specs.WrongTypes.{integers, is_mistyped}
 use Rattle.check_constants.specs.declared.defined.Defined.{Defined}
 use Rattle.check_constants.specs.Expressions.{parts_step, is_made_of}
 use Rattle.check_constants.specs.Needed.{is_known, lower_lacks, upper_lacks, bound_lacks, bounds_lack, declarator_lacks}
-use Rattle.check_constants.specs.ValueFaults.{in_commons}
+use Rattle.check_constants.specs.Faults.{in_commons}
 use Rattle.f77_semantics.specs.Program.{DummyArray}
 use Rattle.f77_semantics.specs.Terms as names
 use Rattle.f77_semantics.specs.Terms.{Meant, Resolved, bare, step, resolved, sites_in, term_from}

@@ -50,7 +50,7 @@ use Rattle.check_types.specs.Overreaching.{definitions_overreach, overreaches_in
 use Rattle.f77_names.specs.Standings.{is_called, standing, standing_of}
 use Rattle.check_constants.specs.declared.defined.Defined.{Defined}
 use Rattle.check_constants.specs.Needed.{bounds_lack, declarator_lacks, form_lacks, lacks_values}
-use Rattle.check_constants.specs.ValueFaults.{in_commons}
+use Rattle.check_constants.specs.Faults.{in_commons}
 use Rattle.f77_semantics.specs.Source.{routine, slot_named}
 use Rattle.f77_semantics.specs.Units.{is_array as is_array_of, total as total_of}
 use Rattle.f77_semantics.specs.Terms as names

@@ -35,7 +35,9 @@ use Rattle.f77_flow.specs.Blocks.{below, otherwise}
 use Rattle.f77_flow.specs.Graph.{Point, At, Inside, Test, after, leaving, simple_ways, ways, inner_ways}
 use Rattle.f77_flow.specs.Labels.{target}
 use Rattle.f77_semantics.specs.Program as program
-use Rattle.f77_semantics.specs.Program.{Base, Dummy, Own, Common, Term, Text, Terms, End, ◌and◌, Statement, Do, Stop, Return, Routine}
+use Rattle.f77_semantics.specs.Program.{Term, Text, Terms, End, ◌and◌, Statement, Do, Stop, Return, Routine}
+use Rattle.f77_semantics.specs.declared.storage.Base.{Base}
+use Rattle.f77_semantics.specs.declared.storage.Base.TheVariants.{Common, Dummy, Own}
 use Rattle.f77_semantics.specs.Terms as names
 use Rattle.f77_semantics.specs.Terms.{Meant, Resolved, sites_in, term_from, sites_of, terms_of, resolved}
 use Rattle.f77_semantics.specs.Resolve.{loop, optional, simple, statement_of}

@@ -36,7 +36,8 @@ use Rattle.check_types.specs.Targets.{other_at, is_no_variable}
 use Rattle.check_types.specs.Scalars.{is_passed, is_no_scalar, misplaced_step, is_misplaced}
 use Rattle.check_types.specs.Exponents.{is_no_exponent, reckoned_step, reckoned, has_wrong_exponent}
 use Rattle.check_types.proofs.Agreeing.{has_value}
-use Rattle.f77_semantics.specs.Program.{Base, Term, Literal, Variable, Element, Whole, Reference, Apply, Paren, Negative, Plus, Not, Terms, End, ◌and◌}
+use Rattle.f77_semantics.specs.Program.{Term, Literal, Variable, Element, Whole, Reference, Apply, Paren, Negative, Plus, Not, Terms, End, ◌and◌}
+use Rattle.f77_semantics.specs.declared.storage.Base.{Base}
 use Rattle.f77_semantics.specs.Terms as names
 use Rattle.f77_semantics.specs.Terms.{Meant, Resolved, sites_in, term_from, sites_of, terms_of, plain, over, bare, applied, step, resolved}
 use Rattle.f77_semantics.specs.Effects.{Effects, HasAll, HasSite, takes, gives, arity, ExponentOk, TermOk, IntegersOk, ActualsOk, TargetOk}

@@ -22,7 +22,9 @@ use Rattle.check_types.specs.WrongTypes.{differs, is_mistyped}
 use Rattle.check_types.specs.Scalars.{is_misplaced}
 use Rattle.check_types.specs.Exponents.{has_wrong_exponent}
 use Rattle.f77_semantics.specs.Values.{has_type}
-use Rattle.f77_semantics.specs.Program.{Base, Array, Term, End, ◌and◌}
+use Rattle.f77_semantics.specs.Program.{Term, End, ◌and◌}
+use Rattle.f77_semantics.specs.declared.storage.Base.{Base}
+use Rattle.f77_semantics.specs.declared.storage.Array.{Array}
 use Rattle.f77_semantics.specs.Terms as names
 use Rattle.f77_semantics.specs.Terms.{Meant}
 use Rattle.f77_semantics.specs.Effects.{Effects, ScalarOk, ArrayOk, TermOk, ActualsOk}

@@ -10,7 +10,8 @@ use Rattle.f77_tree.specs.declared.unit.Value.{Value}
 use Rattle.f77_tree.specs.declared.unit.Value.TheVariants as values
 use Rattle.f77_flow.specs.Graph.{Point, At}
 use Rattle.f77_semantics.specs.Program as program
-use Rattle.f77_semantics.specs.Program.{Term, Terms, Routine, Own}
+use Rattle.f77_semantics.specs.Program.{Term, Terms, Routine}
+use Rattle.f77_semantics.specs.declared.storage.Base.TheVariants.{Own}
 use Rattle.f77_semantics.specs.Values.{seen, operated}
 use Rattle.f77_semantics.specs.Expressions.{Frame, typed, scalar, store}
 use Rattle.f77_semantics.specs.Expressions as whole

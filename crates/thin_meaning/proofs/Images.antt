@@ -14,9 +14,10 @@ use Rattle.thin_form.specs.declared.statement.Item.TheVariants.{Value, Text}
 use Rattle.thin_form.specs.declared.statement.Statement.{Statement as ThinStatement}
 use Rattle.thin_form.specs.declared.statement.Statement.TheVariants.{Assign, Print, End}
 use Rattle.thin_code.specs.Layout.{offset_of}
+use Rattle.f77_semantics.specs.declared.storage.Base.TheVariants.{Own}
 
 abbrev pub variable : List Name → Name → Term
-variable names name = program.Variable types.Integer (program.Own (offset_of names name))
+variable names name = program.Variable types.Integer (Own (offset_of names name))
 
 abbrev pub term_image : List Name → ThinTerm → Term
 term_image names (Variable name) = variable names name

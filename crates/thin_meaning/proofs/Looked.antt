@@ -18,7 +18,8 @@ use Rattle.f77_values.specs.Tables.{is_among, with_name, distinct}
 use Rattle.f77_names.specs.Occurrences.{in_statement}
 use Rattle.f77_store.specs.Layouts.{callees_with}
 use Rattle.f77_semantics.specs.Program as program
-use Rattle.f77_semantics.specs.Program.{Term, Own}
+use Rattle.f77_semantics.specs.Program.{Term}
+use Rattle.f77_semantics.specs.declared.storage.Base.TheVariants.{Own}
 use Rattle.f77_semantics.specs.Terms.{Meant, Resolved, term_from, sites_in, terms_of, plain, bare, resolved}
 use Rattle.f77_semantics.specs.Terms as names
 use Rattle.f77_semantics.specs.Resolve.{statement_of, statements_from}

@@ -19,7 +19,7 @@ use Rattle.f77_store.specs.Areas.{total, place_at, placed, places, commons}
 use Rattle.f77_names.specs.Declarations.{declarations}
 use Rattle.f77_names.specs.Roles.{facts, known}
 use Rattle.f77_store.specs.Layouts.{from_of, locals, own_slot, slot_of, sizes, slots_with, local_size_with, slots, local_size}
-use Rattle.f77_semantics.specs.Program.{Own}
+use Rattle.f77_semantics.specs.declared.storage.Base.TheVariants.{Own}
 use Rattle.f77_semantics.specs.Terms.{Variable, meant_as}
 use Rattle.f77_semantics.specs.Source.{slot_named, meant_in}
 use Rattle.thin_form.specs.declared.statement.Statement.{Statement}

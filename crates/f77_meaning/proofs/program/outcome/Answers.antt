@@ -13,7 +13,7 @@ told-requires g c =
     let main = there units c.in-Some.main (c.in-Some.ensures {u = tt}).within in
     let start = g.O.Sink.written c.args.out.now in
     let reached = (c.in_ok-end-in-Some.ensures.run main.0 main.1) start [] (Appends-nil start) in
-    ended units c.args.input.now c.args.steps main.0 c.in_ok-end-in-Some.end start (g.O.Sink.written c.run_main.new.out) (world_of c.in_ok-end-in-Some.machine) ((c.in-Some.ensures {u = tt}).main ∙ main.1) reached
+    ended units c.args.input.now c.args.steps main.0 c.in_ok-end-in-Some.end start (g.O.Sink.written c.run_main.new.out) (world_of c.in_ok-end-in-Some.state) ((c.in-Some.ensures {u = tt}).main ∙ main.1) reached
     (c.programs_law.ensures.never_wrong units c.requires.good c.requires.names c.requires.accepted c.args.input.now c.args.steps)
 
 pub unreachable-requires : goal.unreachable-requires

@@ -2,7 +2,8 @@ use Rattle.std.proofs.Common.{subst, Option, Result, option_map}
 use Rattle.run_model.specs.Acts.{Fine, Act, Answer, Done, play}
 use Rattle.f77_tree.specs.declared.unit.Value.{Value}
 use Rattle.f77_semantics.specs.Values.{stored}
-use Rattle.interp_code.specs.Steps.{Operands, Perform, step}
+use Rattle.interp_code.specs.Steps.{Operands, step}
+use Rattle.interp_code.specs.declared.step.Step.TheVariants.{Perform}
 use Rattle.interp_calls.specs.declared.halt.Halt.{Halt}
 use Rattle.interp_calls.specs.Calls.{Answers}
 use Rattle.interp_calls.proofs.Reaching.{sends_left}

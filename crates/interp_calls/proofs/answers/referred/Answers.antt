@@ -3,7 +3,8 @@ use Rattle.run_model.specs.Acts.{Fine, Act, Answer, and_then, play}
 use Rattle.f77_tree.specs.declared.unit.Value.{Value}
 use Rattle.f77_semantics.specs.Expressions.{resulting}
 use Rattle.f77_semantics.specs.Values.{stored}
-use Rattle.interp_code.specs.Steps.{Operands, Refer, step, push_item}
+use Rattle.interp_code.specs.Steps.{Operands, step, push_item}
+use Rattle.interp_code.specs.declared.step.Step.TheVariants.{Refer}
 use Rattle.interp_steps.specs.Stacks.{stack_of}
 use Rattle.interp_steps.proofs.Plays.{moved}
 use Rattle.interp_calls.specs.declared.halt.Halt.{Halt}

@@ -1,7 +1,6 @@
-use Rattle.std.proofs.Common.{◌≡◌, List, [], map, sym, ap, ◌∙◌, subst, rules}
+use Rattle.std.proofs.Common.{◌≡◌, List, [], sym, ap, ◌∙◌, subst, rules}
 use Rattle.run_model.specs.Acts.{Act, Done}
-use Rattle.f77_semantics.specs.Program.{Extent}
-use Rattle.interp_code.specs.Denoted.{extent_of}
+use Rattle.f77_semantics.specs.declared.storage.Extent.{Extent}
 use Rattle.interp_code.specs.Entries.{pairs_in, measured}
 use Rattle.interp_code.specs.Steps.{operands_onto}
 use Rattle.interp_steps.specs.Stacks.{stack_of}
@@ -16,4 +15,4 @@ returns c =
     let os = operands_onto (stack_of c.args.operands.now) [] in
     let given : pairs_of os ≡ Done c.in_ok-pairs.pairs = search rules in
     let same : c.as_slice.result.now ≡ c.in_ok-pairs.pairs = search rules in
-    subst (λ (act : Act (List Extent)). Gives c.measured.result (λ es. map extent_of es) act) (ap (measured long) same ∙ sym (pairs_go (pairs_in os) c.in_ok-pairs.pairs (measured long) given)) c.measured.ensures
+    subst (λ (act : Act (List Extent)). Gives c.measured.result (λ es. es) act) (ap (measured long) same ∙ sym (pairs_go (pairs_in os) c.in_ok-pairs.pairs (measured long) given)) c.measured.ensures

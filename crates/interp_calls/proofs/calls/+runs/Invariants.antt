@@ -4,7 +4,6 @@ use Rattle.run_model.specs.Turns.{turns, run_from}
 use Rattle.f77_semantics.specs.Program.{Routine}
 use Rattle.f77_semantics.specs.Statements.{turn}
 use Rattle.f77_semantics.specs.Units.{Program, beginning}
-use Rattle.interp_code.specs.Denoted.{step_of}
 use Rattle.interp_code.specs.Steps.{steps}
 use Rattle.interp_lower.specs.Routines.{dummy_of}
 use Rattle.interp_steps.specs.Frames.{frame_of}
@@ -55,9 +54,9 @@ decreases-call_at g l = 10 * l.depth + 2
 abbrev pub invariant-dimension-loop-array : goal.invariant-dimension-loop-array
 invariant-dimension-loop-array g l = record {
   run : (units : Program) (u : Routine) → IsOf l.procedures l.procedure units u
-      → Sends (Ok (tt {0})) (λ _. play (handler units l.depth u) (entry_by (frame_of l.frame) (map dummy_of (drop l.array-index l.array-items)))) (world_of l.initial.machine) (world_of l.machine) (g.O.Sink.written l.initial.out) (g.O.Sink.written l.out)
+      → Sends (Ok (tt {0})) (λ _. play (handler units l.depth u) (entry_by (frame_of l.frame) (map dummy_of (drop l.array-index l.array-items)))) (world_of l.initial.state) (world_of l.state) (g.O.Sink.written l.initial.out) (g.O.Sink.written l.out)
       (play (handler units l.depth u) (entry_by (frame_of l.initial.frame) (map dummy_of l.array-items)));
-  sent : l.machine.out.items ≡ [];
+  sent : l.state.out.items ≡ [];
   later : g.O.Sink.faults l.initial.out ≤ g.O.Sink.faults l.out;
 }
 
@@ -65,10 +64,10 @@ invariant-dimension-loop-array g l = record {
 abbrev pub invariant-run_turns-turns : goal.invariant-run_turns-turns
 invariant-run_turns-turns g l = record {
   run : (units : Program) (u : Routine) → IsOf l.procedures l.procedure units u
-      → Sends (Ok (tt {0})) (λ _. turns (handler units l.depth u) (turn u (frame_of l.frame)) (suc l.more) (here_of l.here)) (world_of l.initial.machine) (world_of l.machine) (g.O.Sink.written l.initial.out) (g.O.Sink.written l.out)
+      → Sends (Ok (tt {0})) (λ _. turns (handler units l.depth u) (turn u (frame_of l.frame)) (suc l.more) (here_of l.here)) (world_of l.initial.state) (world_of l.state) (g.O.Sink.written l.initial.out) (g.O.Sink.written l.out)
       (run_from (handler units l.depth u) (turn u (frame_of l.frame)) (beginning u));
   stands : Stands (length l.procedure.control.statements.now) l.here;
-  sent : l.machine.out.items ≡ [];
+  sent : l.state.out.items ≡ [];
   later : g.O.Sink.faults l.initial.out ≤ g.O.Sink.faults l.out;
 }
 
@@ -79,8 +78,8 @@ decreases-run_turns-turns g l = l.more
 abbrev pub invariant-run_steps-loop-one : goal.invariant-run_steps-loop-one
 invariant-run_steps-loop-one g l = record {
   run : (units : Program) (u : Routine) → IsOf l.procedures l.procedure units u
-      → Sends (Ok (tt {0})) (λ _. play (handler units l.depth u) (steps (frame_of l.frame) (map step_of (drop l.one-index l.steps)) (stack_of l.stack.items))) (world_of l.initial.machine) (world_of l.machine) (g.O.Sink.written l.initial.out) (g.O.Sink.written l.out)
-      (play (handler units l.depth u) (steps (frame_of l.frame) (map step_of l.steps) (stack_of l.initial.stack.items)));
-  sent : l.machine.out.items ≡ [];
+      → Sends (Ok (tt {0})) (λ _. play (handler units l.depth u) (steps (frame_of l.frame) (drop l.one-index l.steps) (stack_of l.stack.items))) (world_of l.initial.state) (world_of l.state) (g.O.Sink.written l.initial.out) (g.O.Sink.written l.out)
+      (play (handler units l.depth u) (steps (frame_of l.frame) l.steps (stack_of l.initial.stack.items)));
+  sent : l.state.out.items ≡ [];
   later : g.O.Sink.faults l.initial.out ≤ g.O.Sink.faults l.out;
 }

@@ -1,6 +1,6 @@
 use Rattle.std.proofs.Common.{◌≡◌, ◌++◌, drop, map}
 use Rattle.f77_semantics.specs.Source.{dummy_arrays_from}
-use Rattle.interp_lower.specs.Pieces.{meant}
+use Rattle.interp_data.specs.Meant.{meant}
 use Rattle.interp_lower.specs.Routines.{dummy_of, dummy_as}
 use Rattle.interp_lower.proofs.arrays.dummy_arrays.Given as goal
 

@@ -1,5 +1,5 @@
 use Rattle.std.proofs.lemmas.Result.{on_ok_weaker}
-use Rattle.interp_lower.specs.Pieces.{meant}
+use Rattle.interp_data.specs.Meant.{meant}
 use Rattle.interp_lower.proofs.Dimensions.{array_more}
 use Rattle.interp_lower.proofs.arrays.push_array.Goals as goal
 

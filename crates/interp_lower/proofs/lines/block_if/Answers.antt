@@ -1,5 +1,5 @@
 use Rattle.std.proofs.Common.{refl, sym, ◌∙◌}
-use Rattle.interp_lower.specs.Pieces.{meant}
+use Rattle.interp_data.specs.Meant.{meant}
 use Rattle.interp_lower.proofs.Preludes.{prelude-If}
 use Rattle.interp_lower.proofs.lines.block_if.Goals as goal
 

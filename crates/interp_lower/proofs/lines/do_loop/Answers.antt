@@ -1,9 +1,10 @@
 use Rattle.std.proofs.Common.{List, subst}
 use Rattle.std.proofs.lemmas.Result.{IfOk-weaker}
 use Rattle.f77_semantics.specs.Terms.{Meant}
-use Rattle.interp_code.specs.Steps.{Step}
-use Rattle.interp_lower.specs.Pieces.{meant, loop_steps}
-use Rattle.interp_lower.specs.Meanings.{meant_of}
+use Rattle.interp_code.specs.declared.step.Step.{Step}
+use Rattle.interp_data.specs.Meant.{meant}
+use Rattle.interp_lower.specs.Pieces.{loop_steps}
+use Rattle.interp_data.specs.Meanings.{meant_of}
 use Rattle.interp_lower.specs.Lines.{IsLoop}
 use Rattle.interp_lower.proofs.Lining.{is_loop}
 use Rattle.interp_lower.proofs.lines.do_loop.Goals as goal

@@ -4,7 +4,7 @@ use Rattle.f77_tree.specs.declared.unit.Stmt.{Stmt}
 use Rattle.f77_names.specs.Occurrences.{in_statement}
 use Rattle.f77_store.specs.Layouts.{callees_with}
 use Rattle.f77_semantics.specs.Resolve.{statement_of}
-use Rattle.interp_lower.specs.Pieces.{meant}
+use Rattle.interp_data.specs.Meant.{meant}
 use Rattle.interp_lower.specs.Lines.{IsLine}
 use Rattle.interp_lower.proofs.Lining.{lines_more, lines_end}
 use Rattle.interp_lower.proofs.lines.lines_of.Goals as goal

@@ -1,7 +1,7 @@
 use Rattle.std.proofs.Common.{List, ◌++◌, drop}
 use Rattle.f77_semantics.specs.Resolve.{statements_from}
 use Rattle.interp_lower.specs.declared.piece.Line.{Line}
-use Rattle.interp_lower.specs.Pieces.{meant}
+use Rattle.interp_data.specs.Meant.{meant}
 use Rattle.interp_lower.specs.Lines.{AreLines}
 use Rattle.interp_lower.proofs.lines.lines_of.Given as goal
 

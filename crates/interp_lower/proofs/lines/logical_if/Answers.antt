@@ -3,7 +3,7 @@ use Rattle.f77_tree.specs.declared.form.Form.{out-Form}
 use Rattle.f77_flow.specs.Labels.{target}
 use Rattle.f77_semantics.specs.Program.{Statement}
 use Rattle.f77_semantics.specs.Resolve.{simple, sites}
-use Rattle.interp_lower.specs.Pieces.{meant}
+use Rattle.interp_data.specs.Meant.{meant}
 use Rattle.interp_lower.specs.Lines.{IsPiece}
 use Rattle.interp_lower.proofs.Preludes.{counted, prelude-LogicalIf}
 use Rattle.interp_lower.proofs.lines.logical_if.Goals as goal

@@ -1,5 +1,6 @@
 use Rattle.std.proofs.Common.{◌+◌, ◌++◌, ap, ◌∙◌}
-use Rattle.interp_lower.specs.Pieces.{steps_of, meant, site_total, targets_steps}
+use Rattle.interp_data.specs.Meant.{meant}
+use Rattle.interp_lower.specs.Pieces.{site_total, targets_steps}
 use Rattle.interp_lower.proofs.Coming.{sites_more, sites_end, targets_more, targets_end}
 use Rattle.interp_lower.proofs.targets.push_targets.Goals as goal
 
@@ -12,7 +13,7 @@ loop-e-preserved c =
     let next = c.in_ok-next.ensures.next in
     record {
       sites = sites_more m es i c.loop-e.next c.in_ok-next.next _ e c.loop-e-test.true c.e-item.is next c.loop-e.invariant.sites;
-      steps = targets_more m es i c.loop-e.next c.in_ok-next.next e (steps_of c.loop-e.code) (steps_of c.push_target.new.code) (steps_of c.add.new.code) _ c.loop-e-test.true c.e-item.is next c.in_ok-next.ensures.steps (c.in_ok-add.ensures {u = tt}) c.loop-e.invariant.steps;
+      steps = targets_more m es i c.loop-e.next c.in_ok-next.next e c.loop-e.code c.push_target.new.code c.add.new.code _ c.loop-e-test.true c.e-item.is next c.in_ok-next.ensures.steps (c.in_ok-add.ensures {u = tt}) c.loop-e.invariant.steps;
     }
 
 pub returns-clause-next : goal.returns-clause-next
@@ -24,5 +25,5 @@ returns-clause-next c =
 pub returns-clause-steps : goal.returns-clause-steps
 returns-clause-steps c =
     let m = meant c.args.names.now in
-    targets_end m c.as_slice-e-items.result.now c.loop-e.e-index c.loop-e.next (steps_of c.loop-e.code) _ c.loop-e-test.false c.loop-e.invariant.steps
-    ∙ ap (λ es. steps_of c.args.code.now ++ targets_steps m es c.args.site) c.as_slice-e-items.ensures
+    targets_end m c.as_slice-e-items.result.now c.loop-e.e-index c.loop-e.next c.loop-e.code _ c.loop-e-test.false c.loop-e.invariant.steps
+    ∙ ap (λ es. c.args.code.now ++ targets_steps m es c.args.site) c.as_slice-e-items.ensures

@@ -1,9 +1,10 @@
 use Rattle.std.proofs.Common.{◌≡◌, ◌+◌, ◌++◌, drop}
-use Rattle.interp_lower.specs.Pieces.{steps_of, meant, site_total, targets_steps}
+use Rattle.interp_data.specs.Meant.{meant}
+use Rattle.interp_lower.specs.Pieces.{site_total, targets_steps}
 use Rattle.interp_lower.proofs.targets.push_targets.Given as goal
 
 abbrev pub invariant-loop-e : goal.invariant-loop-e
 invariant-loop-e l = record {
   sites : l.next + site_total (meant l.names) (drop l.e-index l.e-items) ≡ l.fn.site + site_total (meant l.names) l.e-items;
-  steps : steps_of l.code ++ targets_steps (meant l.names) (drop l.e-index l.e-items) l.next ≡ steps_of l.initial.code ++ targets_steps (meant l.names) l.e-items l.fn.site;
+  steps : l.code ++ targets_steps (meant l.names) (drop l.e-index l.e-items) l.next ≡ l.initial.code ++ targets_steps (meant l.names) l.e-items l.fn.site;
 }

@@ -11,7 +11,7 @@ use Rattle.interp_steps.proofs.reads.fetch_step.Goals as goal
 
 pub returns : goal.returns
 returns c = λ h.
-    let w = world_of c.args.machine.now in
+    let w = world_of c.args.state.now in
     let s = stack_of c.args.stack.now.items in
     subst (λ (l : Loc). Ends c.push_value.result (λ _. stack_of c.push_value.new.stack.items) w (play h (and_then (fetch c.args.ty l) (push_item s)) w)) (c.in_ok-spot.ensures {u = tt})
     (c.push_value.ensures h (fetch c.args.ty (loc_of c.in_ok-spot.spot)) w w (c.fetch.ensures h))

@@ -13,7 +13,7 @@ use Rattle.interp_steps.proofs.stores.hold.Goals as goal
 
 pub returns-in_ok-push-in-Ok-clause-moves : goal.returns-in_ok-push-in-Ok-clause-moves
 returns-in_ok-push-in-Ok-clause-moves c = λ h.
-    let w = world_of c.args.machine.now in
+    let w = world_of c.args.state.now in
     let v = world_of c.store.new.self in
     let s = stack_of c.args.stack.now.items in
     let i = interval_of c.args.i in
@@ -22,7 +22,7 @@ returns-in_ok-push-in-Ok-clause-moves c = λ h.
 
 pub returns-in-Err-clause-moves : goal.returns-in-Err-clause-moves
 returns-in-Err-clause-moves c = λ h.
-    let w = world_of c.args.machine.now in
+    let w = world_of c.args.state.now in
     let v = world_of c.store.new.self in
     let s = stack_of c.args.stack.now.items in
     let i = interval_of c.args.i in

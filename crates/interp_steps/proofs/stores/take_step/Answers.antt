@@ -12,5 +12,5 @@ use Rattle.interp_steps.proofs.stores.take_step.Goals as goal
 pub returns-in-Some-clause-moves : goal.returns-in-Some-clause-moves
 returns-in-Some-clause-moves c = λ f h.
     let t = stack_of c.pop_place.new.stack.items in
-    subst (λ (o : Option (Loc × Operands)). Ends c.take_into.result (λ _. t) (world_of c.take_into.new.self) (play h (with_some o (λ p. Take (λ x. and_then (store p.0 (Integer x)) (λ _. Done p.1)))) (world_of c.args.machine.now))) (sym c.in-Some.ensures)
+    subst (λ (o : Option (Loc × Operands)). Ends c.take_into.result (λ _. t) (world_of c.take_into.new.self) (play h (with_some o (λ p. Take (λ x. and_then (store p.0 (Integer x)) (λ _. Done p.1)))) (world_of c.args.state.now))) (sym c.in-Some.ensures)
     (c.take_into.ensures.moves h t)

@@ -13,9 +13,9 @@ use Rattle.interp_turns.proofs.endings.assign.Goals as goal
 
 pub returns-in-Ok-clause-turn : goal.returns-in-Ok-clause-turn
 returns-in-Ok-clause-turn c = λ h.
-    done_goes h (assigned (stack_of c.args.stack.now)) (λ p. and_then (store p.1 p.0) (λ _. to (after c.args.control.now.statements.now c.args.k) (here_of c.args.here.now))) (world_of c.args.machine.now)
-    c.store.result (λ t. after_of t c.store.new.here) (world_of c.store.new.machine) (c.in-Ok.pair.0, loc_of c.in-Ok.pair.1) c.in-Ok.ensures (c.store.ensures.turn h)
+    done_goes h (assigned (stack_of c.args.stack.now)) (λ p. and_then (store p.1 p.0) (λ _. to (after c.args.control.now.statements.now c.args.k) (here_of c.args.here.now))) (world_of c.args.state.now)
+    c.store.result (λ t. after_of t c.store.new.here) (world_of c.store.new.state) (c.in-Ok.pair.0, loc_of c.in-Ok.pair.1) c.in-Ok.ensures (c.store.ensures.turn h)
 
 pub returns-in-Err-clause-turn : goal.returns-in-Err-clause-turn
 returns-in-Err-clause-turn c = λ h.
-    fails h (assigned (stack_of c.args.stack.now)) (λ p. and_then (store p.1 p.0) (λ _. to (after c.args.control.now.statements.now c.args.k) (here_of c.args.here.now))) (world_of c.args.machine.now) c.in-Err.stop c.in-Err.ensures
+    fails h (assigned (stack_of c.args.stack.now)) (λ p. and_then (store p.1 p.0) (λ _. to (after c.args.control.now.statements.now c.args.k) (here_of c.args.here.now))) (world_of c.args.state.now) c.in-Err.stop c.in-Err.ensures

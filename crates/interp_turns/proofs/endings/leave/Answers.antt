@@ -11,9 +11,9 @@ use Rattle.interp_turns.proofs.endings.leave.Goals as goal
 
 pub returns-in-Ok : goal.returns-in-Ok
 returns-in-Ok c = λ h.
-    done_goes h (nothing (stack_of c.args.stack.now)) (λ _. return (frame_of c.args.frame.now) (option_map variable_of c.args.variable)) (world_of c.args.machine.now)
-    c.answer.result (λ t. after_of t c.args.here.now) (world_of c.args.machine.now) tt c.in-Ok.ensures (c.answer.ensures h)
+    done_goes h (nothing (stack_of c.args.stack.now)) (λ _. return (frame_of c.args.frame.now) (option_map variable_of c.args.variable)) (world_of c.args.state.now)
+    c.answer.result (λ t. after_of t c.args.here.now) (world_of c.args.state.now) tt c.in-Ok.ensures (c.answer.ensures h)
 
 pub returns-in-Err : goal.returns-in-Err
 returns-in-Err c = λ h.
-    fails h (nothing (stack_of c.args.stack.now)) (λ _. return (frame_of c.args.frame.now) (option_map variable_of c.args.variable)) (world_of c.args.machine.now) c.in-Err.stop c.in-Err.ensures
+    fails h (nothing (stack_of c.args.stack.now)) (λ _. return (frame_of c.args.frame.now) (option_map variable_of c.args.variable)) (world_of c.args.state.now) c.in-Err.stop c.in-Err.ensures

@@ -14,8 +14,8 @@ use Rattle.interp_turns.proofs.endings.write.Goals as goal
 pub returns-clause-turn : goal.returns-clause-turn
 returns-clause-turn c = λ h.
     let s = here_of c.args.here.now in
-    let w = world_of c.args.machine.now in
-    let v = world_of c.say_record_from.new.machine in
+    let w = world_of c.args.state.now in
+    let v = world_of c.say_record_from.new.state in
     let says : play h (say_record (flat_map said (operands_onto (stack_of c.args.stack.now) []))) w ≡ Fine tt v =
     record_says h c.args.stack.now w ∙ ap (λ x. Fine tt x) (sym (c.in_ok-say_record_from.ensures {u = tt})) in
     goes_on h (say_record (flat_map said (operands_onto (stack_of c.args.stack.now) []))) (λ _. to (after c.args.control.now.statements.now c.args.k) s) w v tt says

@@ -10,7 +10,6 @@ use Rattle.f77_semantics.specs.Expressions.{fetch, store, scalar}
 use Rattle.f77_semantics.specs.Statements as running
 use Rattle.f77_semantics.specs.Statements.{as_number, set_loop, tested}
 use Rattle.interp_cells.specs.Spots.{loc_of}
-use Rattle.interp_code.specs.Denoted.{base_of}
 use Rattle.interp_steps.specs.Frames.{frame_of}
 use Rattle.interp_steps.specs.Stops.{Stopped}
 use Rattle.interp_steps.specs.Worlds.{world_of}
@@ -26,11 +25,11 @@ adds l step = and_then (fetch ty.Integer l) (λ x. and_then (as_number x) (λ n.
 pub returns-in-Ok-clause-turn : goal.returns-in-Ok-clause-turn
 returns-in-Ok-clause-turn c = λ u follows first last third h.
     let f = frame_of c.args.frame.now in
-    let b = base_of c.args.base.now in
+    let b = c.args.base.now in
     let s = here_of c.args.here.now in
     let k = c.args.k in
-    let w = world_of c.args.machine.now in
-    let v = world_of c.add_to.new.machine in
+    let w = world_of c.args.state.now in
+    let v = world_of c.add_to.new.state in
     let step = to_z w64 (of_z w64 c.get-left.result.step) in
     let fits : SFits w64 c.get-left.result.step = search rules in
     let by : step ≡ (s.loops k).step = to_z-of_z w64 c.get-left.result.step fits ∙ ap (λ (l : running.Loop). l.step) (ap loop_of c.get-left.ensures) in
@@ -45,11 +44,11 @@ returns-in-Ok-clause-turn c = λ u follows first last third h.
 pub returns-in-Err-clause-turn : goal.returns-in-Err-clause-turn
 returns-in-Err-clause-turn c = λ u follows first last third h.
     let f = frame_of c.args.frame.now in
-    let b = base_of c.args.base.now in
+    let b = c.args.base.now in
     let s = here_of c.args.here.now in
     let k = c.args.k in
-    let w = world_of c.args.machine.now in
-    let v = world_of c.add_to.new.machine in
+    let w = world_of c.args.state.now in
+    let v = world_of c.add_to.new.state in
     let step = to_z w64 (of_z w64 c.get-left.result.step) in
     let fits : SFits w64 c.get-left.result.step = search rules in
     let by : step ≡ (s.loops k).step = to_z-of_z w64 c.get-left.result.step fits ∙ ap (λ (l : running.Loop). l.step) (ap loop_of c.get-left.ensures) in

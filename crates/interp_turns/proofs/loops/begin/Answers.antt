@@ -10,7 +10,6 @@ use Rattle.f77_semantics.specs.Expressions.{store}
 use Rattle.f77_semantics.specs.Statements as running
 use Rattle.f77_semantics.specs.Statements.{set_loop, trips}
 use Rattle.interp_cells.specs.Spots.{loc_of}
-use Rattle.interp_code.specs.Denoted.{base_of}
 use Rattle.interp_steps.specs.Frames.{frame_of}
 use Rattle.interp_steps.specs.Stops.{Stopped}
 use Rattle.interp_steps.specs.Worlds.{world_of}
@@ -35,15 +34,15 @@ zero_is z z' b b' e is test = ap (λ (z : ℤ). int_eq z (pos 0)) (sym e) ∙ (s
 pub returns-then-is_zero-clause-turn : goal.returns-then-is_zero-clause-turn
 returns-then-is_zero-clause-turn c = λ h.
     let same = to_z-of_z w64 c.args.step c.ranges.step in
-    ap (λ (act : Act (After running.Here)). play h act (world_of c.args.machine.now)) (begun_not (frame_of c.args.frame.now) (here_of c.args.here.now) c.args.k (base_of c.args.base.now) c.args.first c.args.last c.args.step (zero_is _ c.args.step c.is_zero.result true same c.is_zero.ensures c.if-is_zero.true))
+    ap (λ (act : Act (After running.Here)). play h act (world_of c.args.state.now)) (begun_not (frame_of c.args.frame.now) (here_of c.args.here.now) c.args.k c.args.base.now c.args.first c.args.last c.args.step (zero_is _ c.args.step c.is_zero.result true same c.is_zero.ensures c.if-is_zero.true))
 
 pub returns-in-Ok-clause-turn : goal.returns-in-Ok-clause-turn
 returns-in-Ok-clause-turn c = λ h.
     let f = frame_of c.args.frame.now in
-    let b = base_of c.args.base.now in
+    let b = c.args.base.now in
     let s = here_of c.args.here.now in
     let k = c.args.k in
-    let w = world_of c.args.machine.now in
+    let w = world_of c.args.state.now in
     let v = world_of c.store.new.self in
     let first = to_z-of_z w64 c.args.first c.ranges.first in
     let last = to_z-of_z w64 c.args.last c.ranges.last in
@@ -60,10 +59,10 @@ returns-in-Ok-clause-turn c = λ h.
 pub returns-in-Err-clause-turn : goal.returns-in-Err-clause-turn
 returns-in-Err-clause-turn c = λ h.
     let f = frame_of c.args.frame.now in
-    let b = base_of c.args.base.now in
+    let b = c.args.base.now in
     let s = here_of c.args.here.now in
     let k = c.args.k in
-    let w = world_of c.args.machine.now in
+    let w = world_of c.args.state.now in
     let v = world_of c.store.new.self in
     let first = to_z-of_z w64 c.args.first c.ranges.first in
     let step = to_z-of_z w64 c.args.step c.ranges.step in

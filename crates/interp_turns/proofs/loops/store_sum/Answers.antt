@@ -13,7 +13,7 @@ use Rattle.interp_turns.proofs.loops.store_sum.Goals as goal
 
 pub returns-in-Ok : goal.returns-in-Ok
 returns-in-Ok c = λ h.
-    let w = world_of c.args.machine.now in
+    let w = world_of c.args.state.now in
     let v = world_of c.store.new.self in
     let fits : SFits w64 c.in-Ok.n = search rules in
     let n = to_z w64 (of_z w64 c.in-Ok.n) in
@@ -26,4 +26,4 @@ returns-in-Ok c = λ h.
 
 pub returns-in-Err : goal.returns-in-Err
 returns-in-Err c = λ h.
-    fails h (as_number c.args.value) (λ n. store (loc_of c.args.spot) (Integer (wrap (n +ℤ c.args.step)))) (world_of c.args.machine.now) c.in-Err.stop c.in-Err.ensures
+    fails h (as_number c.args.value) (λ n. store (loc_of c.args.spot) (Integer (wrap (n +ℤ c.args.step)))) (world_of c.args.state.now) c.in-Err.stop c.in-Err.ensures

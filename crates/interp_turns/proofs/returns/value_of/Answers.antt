@@ -17,11 +17,11 @@ resulting v = Done (Result (Some (stored v)))
 
 pub returns-in-Ok : goal.returns-in-Ok
 returns-in-Ok c = λ h.
-    let w = world_of c.args.machine.now in
+    let w = world_of c.args.state.now in
     ap (λ (l : Loc). play h (and_then (fetch c.args.ty l) resulting) w) (sym (c.in_ok-spot.ensures {u = tt})) ∙ goes_on h (fetch c.args.ty (loc_of c.in_ok-spot.spot)) resulting w w c.in-Ok.value (c.in-Ok.ensures h)
 
 pub returns-in-Err : goal.returns-in-Err
 returns-in-Err c = λ h.
-    let w = world_of c.args.machine.now in
+    let w = world_of c.args.state.now in
     subst (λ (l : Loc). Stopped c.in-Err.stop (λ reason. play h (and_then (fetch c.args.ty l) resulting) w ≡ Stop reason w)) (c.in_ok-spot.ensures {u = tt})
     (ends_stops h (fetch c.args.ty (loc_of c.in_ok-spot.spot)) resulting w c.in-Err.stop w (c.in-Err.ensures h))

@@ -1,6 +1,0 @@
-use Rattle.std.proofs.Common.{◌≡◌, ◌++◌, drop, flat_map}
-use Rattle.check_constants.specs.DataTwice.{list_gives}
-use Rattle.check_constants.proofs.given.push_lists.Given as goal
-
-abbrev pub invariant-loop-list : goal.invariant-loop-list
-invariant-loop-list l = l.found ++ flat_map (list_gives l.constants) (drop l.list-index l.list-items) ≡ l.initial.found ++ flat_map (list_gives l.constants) l.list-items

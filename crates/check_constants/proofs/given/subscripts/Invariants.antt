@@ -1,7 +1,0 @@
-use Rattle.std.proofs.Common.{◌≡◌, drop}
-use Rattle.check_constants.specs.DataTwice as t
-use Rattle.check_constants.proofs.Givings.{behind}
-use Rattle.check_constants.proofs.given.subscripts.Given as goal
-
-abbrev pub invariant-loop-e : goal.invariant-loop-e
-invariant-loop-e l = behind l.values (t.subscripts l.constants (drop l.e-index l.e-items)) ≡ t.subscripts l.constants l.e-items

@@ -1,6 +1,0 @@
-use Rattle.std.proofs.Common.{refl}
-use Rattle.check_constants.proofs.Pairs.{constant_done}
-use Rattle.check_constants.proofs.runs.next_constant.Goals as goal
-
-pub returns-clause-same : goal.returns-clause-same
-returns-clause-same c = λ all. constant_done all c.args.items.now c.args.constants.now c.args.at _ c.requires.less c.requires.alike refl c.count_at.ensures refl refl

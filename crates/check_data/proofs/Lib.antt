@@ -1,0 +1,4 @@
+mod Layers
+mod Pairs
+mod Gathering
+mod Givings

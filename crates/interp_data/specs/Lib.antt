@@ -1,0 +1,4 @@
+pub mod Meanings
+pub mod Cells
+pub mod Spans
+pub mod Meant

@@ -1,7 +1,0 @@
-use Rattle.std.proofs.Common.{◌≡◌, ◌++◌, drop, map, ◌||◌}
-use Rattle.f77_values.specs.Tables.{is_among}
-use Rattle.interp_lower.specs.Cells.{kept_of, kept_slots}
-use Rattle.interp_lower.proofs.kept.kept_slots.Given as goal
-
-abbrev pub invariant-loop-slot : goal.invariant-loop-slot
-invariant-loop-slot l = map kept_of l.found ++ kept_slots (λ name. l.all || is_among l.names name) (drop l.slot-index l.slot-items) ≡ kept_slots (λ name. l.all || is_among l.names name) l.slot-items

@@ -1,8 +1,0 @@
-use Rattle.std.proofs.Common.{◌≡◌, ◌++◌, drop, flat_map}
-use Rattle.f77_semantics.specs.Data.{initial}
-use Rattle.interp_lower.specs.Pieces.{meant}
-use Rattle.interp_lower.specs.Runs.{units_of}
-use Rattle.interp_lower.proofs.values.initial.Given as goal
-
-abbrev pub invariant-loop-statement : goal.invariant-loop-statement
-invariant-loop-statement l = flat_map units_of l.all ++ initial l.names.facts.constants (meant l.names) (drop l.statement-index l.statement-items) ≡ initial l.names.facts.constants (meant l.names) l.statement-items

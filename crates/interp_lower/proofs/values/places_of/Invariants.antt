@@ -1,7 +1,0 @@
-use Rattle.std.proofs.Common.{◌≡◌, ◌++◌, drop, flat_map}
-use Rattle.interp_lower.specs.Pieces.{meant}
-use Rattle.interp_lower.specs.Runs.{places_of, items_units}
-use Rattle.interp_lower.proofs.values.places_of.Given as goal
-
-abbrev pub invariant-loop-item : goal.invariant-loop-item
-invariant-loop-item l = flat_map places_of l.all ++ items_units l.names.facts.constants (meant l.names) (drop l.item-index l.item-items) ≡ items_units l.names.facts.constants (meant l.names) l.item-items
