@@ -14,7 +14,7 @@ use Rattle.f77_forms.specs.Forms.{HasForm}
 use Rattle.f77_parse.specs.Statements.{HasHead, headed, headless}
 use Rattle.f77_parse.specs.Progress.{TellsHead, of_head, of_none}
 
-first_line : (x y : Line) (xs ys : List Line) → x ∷ xs ≡ y ∷ ys → x ≡ y
+pub first_line : (x y : Line) (xs ys : List Line) → x ∷ xs ≡ y ∷ ys → x ≡ y
 first_line x y xs ys e = cc
 
 pub no_lines : (lines : List Line) → lines ≡ [] → HasHead lines unit.Main []

@@ -7,5 +7,6 @@ mod Standing
 mod Headings
 mod Finishing
 mod Endings
+mod NamedHeads
 mod ReadTexts
 mod LastStatements

@@ -1,4 +1,5 @@
 pub mod Context
+pub mod HeadNames
 pub mod Limits
 pub mod Order
 pub mod Parsed

@@ -9,6 +9,6 @@ mod unit;
 
 pub use f77_tree::{Refused, Unit};
 pub use fixed_form::UnitText;
-pub use laws::{end_law, read_law};
+pub use laws::{end_law, head_law, read_law};
 pub use statement::form_at;
 pub use unit::{ends_by_end, parse_unit};
