@@ -1,5 +1,6 @@
 mod Layers
 mod Passing
 mod Pairs
+mod Cutting
 mod Gathering
 mod Givings

@@ -4,6 +4,7 @@ pub mod Needed
 pub mod Measures
 pub mod DataItems
 pub mod DataRuns
+pub mod Counting
 pub mod Pairing
 pub mod DataFaults
 pub mod Passes
