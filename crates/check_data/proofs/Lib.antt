@@ -2,3 +2,4 @@ mod Layers
 mod Pairs
 mod Gathering
 mod Givings
+mod Cutting

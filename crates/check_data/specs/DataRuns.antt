@@ -1,6 +1,6 @@
 -- Items and constants of DATA in number and type (ANSI X3.9-1978, section 9.2). The first stand for elements and the last are repeated,
 -- so each is a run: so many of one type. A run of a number that isn't known has at least one, and hides what stands behind it.
-use Rattle.std.specs.Prelude.{ℕ, Bool, true, false, not, ◌&&◌, ◌||◌, ◌==◌, Option, Some, None, List, [], ◌∷◌, length, flat_map, pos, replicate}
+use Rattle.std.specs.Prelude.{ℕ, Bool, true, false, not, ◌&&◌, ◌||◌, ◌==◌, Option, Some, None, List, [], ◌∷◌, length, fold, flat_map, ℤ, pos, replicate}
 use Rattle.std.specs.List.{list_any, zip}
 use Rattle.f77_tree.specs.declared.expr.Expr.{Expr, out-Expr}
 use Rattle.f77_tree.specs.declared.expr.Expr.TheOpen.{Expr-F}
@@ -12,6 +12,7 @@ use Rattle.f77_tree.specs.declared.unit.Value.TheVariants.{Integer}
 use Rattle.f77_names.specs.declared.facts.Facts.{Facts}
 use Rattle.f77_values.specs.Tables.{Told, what}
 use Rattle.f77_values.specs.Constants.{value_of}
+use Rattle.f77_values.specs.Sizes.{between, times}
 use Rattle.f77_names.specs.Roles.{type_of}
 use Rattle.check_data.specs.declared.measures.Measured.{Measured}
 use Rattle.check_data.specs.declared.runs.Run.{Run}
@@ -19,10 +20,17 @@ use Rattle.check_data.specs.declared.runs.Runs.{Runs}
 
 -- ---- what a run is
 
+-- the number of an array's elements, exact however large it is, where all its bounds are constant
+abbrev pub with_extent : Option ℕ → Option ℤ × Option ℤ → Option ℕ
+with_extent size side = times size (between side.0 side.1)
+
+abbrev pub size_of : List (Option ℤ × Option ℤ) → Option ℕ
+size_of sides = fold with_extent (Some 1) sides
+
 -- an array by its name stands for all its elements
 abbrev pub size_in : Option Measured → Option ℕ
 size_in None = Some 1
-size_in (Some array) = array.size
+size_in (Some array) = size_of array.sides
 
 abbrev pub item_count : Told Measured → Expr-F Expr → Option ℕ
 item_count measures (Expr-F.Scalar name) = size_in (what measures name)

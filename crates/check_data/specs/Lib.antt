@@ -6,3 +6,4 @@ pub mod DataFaults
 pub mod DataTwice
 pub mod Seen
 pub mod Faults
+pub mod Counting

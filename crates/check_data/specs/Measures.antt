@@ -1,13 +1,13 @@
 -- The bounds of arrays, as far as they are constant where they stand (ANSI X3.9-1978, section 5.1).
-use Rattle.std.specs.Prelude.{List, [], ◌∷◌, Option, ℤ, fold, map, if◌then◌else◌, ◌==◌, length, option_map, is_some}
+use Rattle.std.specs.Prelude.{List, [], ◌∷◌, Option, ℤ, fold, map, if◌then◌else◌, ◌==◌, length, is_some}
 use Rattle.f77_tree.specs.declared.expr.Expr.{Expr}
 use Rattle.f77_tree.specs.declared.form.Declarator.{Declarator}
 use Rattle.f77_tree.specs.declared.form.Form.{Form, out-Form}
 use Rattle.f77_tree.specs.declared.form.Form.TheOpen.{Form-F}
 use Rattle.f77_tree.specs.declared.unit.Stmt.{Stmt}
 use Rattle.f77_tree.specs.declared.unit.Value.{Value}
-use Rattle.f77_values.specs.Tables.{Name, Told, what, with_told, saturated}
-use Rattle.f77_values.specs.Sizes.{lower, upper, elements}
+use Rattle.f77_values.specs.Tables.{Name, Told, what, with_told}
+use Rattle.f77_values.specs.Sizes.{lower, upper}
 use Rattle.check_constants.specs.declared.defined.Defined.{Defined}
 use Rattle.check_data.specs.declared.measures.Measured.{Measured}
 use Rattle.check_constants.specs.Defined.{nothing, with_statement}
@@ -16,7 +16,7 @@ abbrev pub side : Told Value → Option Expr × Option Expr → Option ℤ × Op
 side named bound = (lower named bound.0, upper named bound.1)
 
 abbrev pub measured : Told Value → List (Option Expr × Option Expr) → Measured
-measured named bounds = record { sides = map (side named) bounds; size = option_map saturated (elements named bounds) }
+measured named bounds = record { sides = map (side named) bounds }
 
 -- The declarator that stands first counts; a second one is a fault of its own.
 abbrev pub with_array : Told Value → Told Measured → Declarator → Told Measured

@@ -1,6 +1,7 @@
 //! The faults of a unit in DATA.
 #![tactic(auto)]
 
+mod counts;
 mod data;
 mod data_items;
 mod elements;

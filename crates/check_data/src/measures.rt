@@ -6,14 +6,13 @@ ghost use Rattle.check_data.specs.Measures as m;
 
 use check_constants::{Defined, define_in, lower, upper};
 use f77_tree::{Declarator, Expr, Form, List, Name, Stmt, Value};
-use f77_values::{Bounds, Table, elements};
+use f77_values::{Bounds, Table};
 use std::alloc::{AllocError, Global};
 
-/// An array's lower and upper bounds, as far as they are constant, and its number of elements, at most 4,294,967,295, where all are.
+/// An array's lower and upper bounds, as far as they are constant.
 #[derive(Drop)]
 pub struct Measured {
     pub sides: List<(Option<i64>, Option<i64>)>,
-    pub size: Option<u32>,
 }
 
 fn side(
@@ -45,7 +44,6 @@ fn measure(alloc: Global, constants: &Table<Value>, bounds: &Bounds) -> Result<M
 {
     Ok(Measured {
         sides: sides(alloc, constants, bounds)?,
-        size: elements(constants, bounds),
     })
 }
 

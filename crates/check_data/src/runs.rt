@@ -1,11 +1,14 @@
 //! Items and constants of DATA in number and type.
 ghost use Rattle.std.specs.Prelude.{◌≡◌, ◌<◌, ◌≤◌, ◌+◌, ◌==◌, ◌&&◌, not, false, Bool, IfOk, length, drop, nat_lt};
+ghost use Rattle.std.specs.Option.{option_map};
 ghost use Rattle.f77_tree.specs.declared.expr.Expr.{out-Expr};
 ghost use Rattle.f77_values.specs.Constants.{value_of};
 ghost use Rattle.f77_values.specs.Tables.{what};
+ghost use Rattle.check_data.specs.Counting as t;
 ghost use Rattle.check_data.specs.DataRuns as m;
 ghost use Rattle.check_data.specs.Pairing as p;
 
+use super::counts::size_of;
 use super::measures::Measured;
 use check_constants::type_of;
 use f77_names::Facts;
@@ -16,7 +19,7 @@ use std::alloc::{AllocError, Global};
 /// So many elements or constants of one type.
 #[derive(Clone, Copy, Drop)]
 pub struct Run {
-    pub count: u64,
+    pub count: u128,
     pub ty: Option<Ty>,
 }
 
@@ -31,26 +34,23 @@ pub struct Runs {
 #[derive(Clone, Copy, Drop)]
 pub struct Pairing {
     pub item: usize,
-    pub items_left: u64,
+    pub items_left: u128,
     pub constant: usize,
-    pub constants_left: u64,
+    pub constants_left: u128,
 }
 
-fn size_in(measures: &Table<Measured>, name: &Name) -> Option<u64>
-    ensures { result ≡ m.size_in (what measures.now name.now) }
+fn size_in(measures: &Table<Measured>, name: &Name) -> Option<u128>
+    ensures { result ≡ option_map t.counted (m.size_in (what measures.now name.now)) }
 {
     match measures.get(name) {
-        Some(array) => match array.size {
-            Some(size) => Some(size as u64),
-            None => None,
-        },
+        Some(array) => size_of(&array.sides),
         None => Some(1),
     }
 }
 
 #[tactic(auto, using(crate::proofs::Layers::views))]
-fn item_count(measures: &Table<Measured>, item: &Expr) -> Option<u64>
-    ensures { result ≡ m.item_count measures.now (out-Expr item.now) }
+fn item_count(measures: &Table<Measured>, item: &Expr) -> Option<u128>
+    ensures { result ≡ option_map t.counted (m.item_count measures.now (out-Expr item.now)) }
 {
     match item {
         Expr::Scalar(name) => size_in(measures, name),
@@ -104,7 +104,7 @@ fn constant_type(facts: &Facts, value: &Expr) -> Option<Ty>
     }
 }
 
-/// The runs of a list of items.
+/// The runs of a list of items. A count above the greatest number of 128 bits is told as this number.
 #[tactic(auto, using(crate::proofs::Layers::lists))]
 pub fn item_runs(
     alloc: Global,
@@ -112,7 +112,7 @@ pub fn item_runs(
     measures: &Table<Measured>,
     items: &List<Expr>,
 ) -> Result<Runs, AllocError>
-    ensures { IfOk result (λ runs. runs ≡ m.item_runs facts.now measures.now items.now) }
+    ensures { IfOk result (λ runs. runs ≡ t.counted_items facts.now measures.now items.now) }
 {
     let mut runs = List::new(alloc);
     for item in items.as_slice() {
@@ -126,29 +126,41 @@ pub fn item_runs(
     Ok(Runs { runs, all: true })
 }
 
-/// The runs of a list of constants.
-#[tactic(auto, using(crate::proofs::Layers::lists))]
+fn run_of(count: u64, ty: Option<Ty>) -> Run
+    ensures count { result.count ≡ count }
+    ensures ty { result.ty ≡ ty }
+    ensures small { result.count ≤ 18446744073709551615 }
+{
+    Run {
+        count: count as u128,
+        ty,
+    }
+}
+
+/// The runs of a list of constants, which are fewer than the greatest number of 128 bits.
+#[tactic(auto, using(crate::proofs::Layers::lists, crate::proofs::Cutting::shorts))]
 pub fn constant_runs(
     alloc: Global,
     facts: &Facts,
     constants: &Table<Value>,
     list: &List<DataConst>,
 ) -> Result<Runs, AllocError>
-    ensures { IfOk result (λ runs. runs ≡ m.constant_runs facts.now constants.now list.now) }
+    ensures runs { IfOk result (λ runs. runs ≡ m.constant_runs facts.now constants.now list.now) }
+    ensures short { IfOk result (λ runs. length (m.types runs.runs) < t.most_counted) }
 {
     let mut runs = List::new(alloc);
     for constant in list.as_slice() {
         let ty = constant_type(facts, &constant.value);
         let Some(count) = constant_count(constants, &constant.repeat) else {
-            runs.push(Run { count: 1, ty })?;
+            runs.push(run_of(1, ty))?;
             return Ok(Runs { runs, all: false });
         };
-        runs.push(Run { count, ty })?;
+        runs.push(run_of(count, ty))?;
     }
     Ok(Runs { runs, all: true })
 }
 
-fn count_at(runs: &[Run], k: usize) -> u64
+fn count_at(runs: &[Run], k: usize) -> u128
     ensures { result ≡ p.count_at runs.now k }
 {
     match runs.get(k) {
@@ -249,7 +261,7 @@ fn any_behind(runs: &[Run], k: usize) -> bool
 }
 
 #[tactic(auto, using(crate::proofs::Pairs::ends))]
-fn any_left(runs: &[Run], k: usize, left: u64) -> bool
+fn any_left(runs: &[Run], k: usize, left: u128) -> bool
     requires { k ≤ length runs.now }
     ensures { result ≡ not (length (p.left_from runs.now k left) == 0) }
 {
