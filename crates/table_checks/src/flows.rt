@@ -37,9 +37,16 @@ pub fn put_flow(alloc: Global, out: &mut Vec<u8>, unit: &Unit) -> Result<(), All
     put_graph(alloc, out, &flow)
 }
 
+fn label_at(statements: &[Stmt], k: usize) -> u32 {
+    match statements.get(k) {
+        Some(statement) => statement.label,
+        None => 0,
+    }
+}
+
 fn put_at(alloc: Global, out: &mut Vec<u8>, control: &Control, k: usize) -> Result<(), AllocError> {
     let places = [
-        control.target(control.statements[k].label),
+        control.target(label_at(control.statements, k)),
         control.below(k),
         control.otherwise(k),
         control.end_if(k),
