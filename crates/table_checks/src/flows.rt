@@ -1,4 +1,6 @@
 //! Where control goes in a unit.
+ghost use Rattle.std.specs.Prelude.{◌<◌, length};
+
 use f77_flow::{Control, Flow, flow_of};
 use f77_tree::{List, Stmt, Unit};
 use std::alloc::{AllocError, Global};
@@ -44,7 +46,9 @@ fn label_at(statements: &[Stmt], k: usize) -> u32 {
     }
 }
 
-fn put_at(alloc: Global, out: &mut Vec<u8>, control: &Control, k: usize) -> Result<(), AllocError> {
+fn put_at(alloc: Global, out: &mut Vec<u8>, control: &Control, k: usize) -> Result<(), AllocError>
+    requires { k < length control.now.statements.now }
+{
     let places = [
         control.target(label_at(control.statements, k)),
         control.below(k),
