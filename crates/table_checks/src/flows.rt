@@ -66,7 +66,9 @@ fn put_at(alloc: Global, out: &mut Vec<u8>, control: &Control, k: usize) -> Resu
     put(out, ";")
 }
 
-fn put_all(alloc: Global, out: &mut Vec<u8>, statements: &[Stmt]) -> Result<(), AllocError> {
+fn put_all(alloc: Global, out: &mut Vec<u8>, statements: &[Stmt]) -> Result<(), AllocError>
+    requires { length statements.now < 4294967296 }
+{
     let control = Control::new(alloc, statements)?;
     put_number(alloc, out, control.first() as u64)?;
     put(out, ";")?;
