@@ -1,0 +1,5 @@
+pub mod Toggles
+pub mod ToggleLaws
+pub mod Places
+pub mod Sets
+pub mod Walks

@@ -1,0 +1,25 @@
+-- Steps of a walk, as the code takes them.
+use Rattle.std.specs.Prelude.{◌≡◌, ℕ, ◌+◌, ◌<◌, Bool, List, length}
+use Rattle.iv_set.specs.declared.bound.Bound.{Bound}
+use Rattle.iv_set.specs.declared.walk.Rule.{Rule}
+use Rattle.iv_set.specs.declared.walk.Rule.TheVariants as rule
+use Rattle.iv_set.specs.declared.walk.Walk.{Walk}
+use Rattle.iv_set.specs.Toggles.{emit, walk, either, both, first_alone}
+use Rattle.iv_set.specs.Places.{cmp}
+
+abbrev pub holds : Rule → Bool → Bool → Bool
+holds rule.Either = either
+holds rule.Both = both
+holds rule.FirstAlone = first_alone
+
+-- what is still to come
+abbrev pub rest_of : (Bool → Bool → Bool) → Walk → List Bound
+rest_of f w = walk cmp f w.in_first w.in_second w.first.now w.second.now
+
+abbrev pub left : Walk → ℕ
+left w = length w.first.now + length w.second.now
+
+-- the step from one place in a walk to the next, past the point
+pub record Comes (w : Walk) (p : Bound) (v : Walk) : Type 0 where
+  pub rest : (f : Bool → Bool → Bool) → rest_of f w ≡ emit p (f w.in_first w.in_second) (f v.in_first v.in_second) (rest_of f v)
+  pub shorter : left v < left w
