@@ -2,3 +2,5 @@ pub mod Left
 pub mod Steps
 pub mod Blind
 pub mod Inputs
+pub mod Endings
+pub mod Walks
