@@ -1,0 +1,4 @@
+pub mod Calls
+pub mod Same
+pub mod Behaviours
+pub mod Laws
