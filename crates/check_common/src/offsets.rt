@@ -6,37 +6,10 @@ ghost use Rattle.f77_values.specs.Sizes as z;
 ghost use Rattle.check_common.specs.Storage as s;
 
 use f77_tree::{Expr, Value};
-use f77_values::{Table, evaluate};
+use f77_values::{Table, evaluate, lower, upper, whole};
 
 // The greatest distance that is told.
 const MOST: u32 = u32::MAX;
-
-fn whole(value: Option<Value>) -> Option<i64>
-    ensures { result ≡ z.whole value }
-{
-    match value {
-        Some(Value::Integer(n)) => Some(n),
-        _ => None,
-    }
-}
-
-fn lower(constants: &Table<Value>, bound: &Option<Expr>) -> Option<i64>
-    ensures { result ≡ z.lower constants.now bound.now }
-{
-    match bound {
-        Some(e) => whole(evaluate(constants, e)),
-        None => Some(1),
-    }
-}
-
-fn upper(constants: &Table<Value>, bound: &Option<Expr>) -> Option<i64>
-    ensures { result ≡ z.upper constants.now bound.now }
-{
-    match bound {
-        Some(e) => whole(evaluate(constants, e)),
-        None => None,
-    }
-}
 
 fn steps(low: Option<i64>, high: Option<i64>, n: Option<i64>) -> Option<u64>
     ensures { result ≡ s.steps low high n }

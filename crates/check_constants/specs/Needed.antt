@@ -13,10 +13,9 @@ use Rattle.f77_tree.specs.declared.unit.Ty.{Ty}
 use Rattle.f77_tree.specs.declared.unit.Ty.TheVariants.{Integer}
 use Rattle.f77_store.specs.declared.areas.Place.{Place}
 use Rattle.f77_names.specs.declared.facts.Facts.{Facts}
-use Rattle.f77_names.specs.declared.roles.Role.{Role}
-use Rattle.f77_names.specs.declared.roles.Role.TheVariants.{Scalar}
 use Rattle.f77_values.specs.Tables.{Name, Told, is_among, what}
-use Rattle.f77_names.specs.Roles.{role, type_of}
+use Rattle.f77_names.specs.Roles.{type_of}
+use Rattle.f77_names.specs.Standings.{standing_of, is_scalar}
 use Rattle.f77_values.specs.Sizes.{Bounds, lower, upper}
 use Rattle.check_constants.specs.declared.defined.Defined.{Defined}
 use Rattle.check_constants.specs.Defined.{with_definition}
@@ -29,10 +28,6 @@ is_constant d e = is_made_of (is_among d.names) e
 -- no constant expression, or one with a zero divisor
 abbrev pub is_no_constant : Defined → Expr → Bool
 is_no_constant d e = not (is_constant d e) || (judged d.values e).zero_divisor
-
-abbrev pub is_scalar : Role → Bool
-is_scalar Scalar = true
-is_scalar _ = false
 
 abbrev pub is_integer : Option Ty → Bool
 is_integer (Some Integer) = true
@@ -62,7 +57,7 @@ run_lacks d run = list_any (λ e. item_lacks d (out-Expr e)) run.0
 module _ (f : Facts) (commons : Told Place) where
   -- a scalar dummy or a scalar in COMMON, of type INTEGER
   abbrev pub is_adjustable : Name → Bool
-  is_adjustable name = is_scalar (role f name) && (is_integer (type_of f name) && (is_among f.attributes.dummies name || is_some (what commons name)))
+  is_adjustable name = is_scalar (standing_of f name) && (is_integer (type_of f name) && (is_among f.attributes.dummies name || is_some (what commons name)))
 
   abbrev pub is_known : List Name → Name → Bool
   is_known constants name = is_among constants name || is_adjustable name

@@ -1,11 +1,10 @@
 //! What expressions are made of, and zero divisors in them.
 ghost use Rattle.std.specs.Prelude.{◌≡◌};
 ghost use Rattle.f77_values.specs.Arithmetic as a;
-ghost use Rattle.f77_values.specs.Constants as c;
 ghost use Rattle.check_constants.specs.Expressions as x;
 
 use f77_tree::{Expr, Op, Value};
-use f77_values::{Table, deny, keep, negate, operate};
+use f77_values::{Table, denied, kept, negated, operated};
 
 /// The value of an expression, if it has one, and whether a zero divisor stands in it.
 #[derive(Clone, Copy, Drop)]
@@ -20,42 +19,6 @@ fn plain(value: Option<Value>) -> Judged
     Judged {
         value,
         zero_divisor: false,
-    }
-}
-
-fn negated(value: Option<Value>) -> Option<Value>
-    ensures { result ≡ c.applied a.negated value }
-{
-    match value {
-        Some(value) => negate(value),
-        None => None,
-    }
-}
-
-fn kept(value: Option<Value>) -> Option<Value>
-    ensures { result ≡ c.applied a.kept value }
-{
-    match value {
-        Some(value) => keep(value),
-        None => None,
-    }
-}
-
-fn denied(value: Option<Value>) -> Option<Value>
-    ensures { result ≡ c.applied a.denied value }
-{
-    match value {
-        Some(value) => deny(value),
-        None => None,
-    }
-}
-
-fn operated(op: Op, left: Option<Value>, right: Option<Value>) -> Option<Value>
-    ensures { result ≡ c.operated op left right }
-{
-    match (left, right) {
-        (Some(x), Some(y)) => operate(op, x, y),
-        _ => None,
     }
 }
 

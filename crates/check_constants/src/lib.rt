@@ -10,6 +10,5 @@ mod passes;
 
 pub use defined::{Defined, define_in};
 pub use fault_marks::Mark;
-pub use names::type_of;
-pub use needed::{is_constant, lower, upper, whole};
+pub use needed::is_constant;
 pub use passes::constant_fault;

@@ -1,5 +1,5 @@
 //! Where a constant expression is needed.
-ghost use Rattle.std.specs.Prelude.{◌≡◌, IfOk, OnOk, ℤ};
+ghost use Rattle.std.specs.Prelude.{◌≡◌, IfOk, OnOk};
 ghost use Rattle.std.specs.List.{list_any};
 ghost use Rattle.f77_tree.specs.declared.expr.Expr.{out-Expr};
 ghost use Rattle.f77_tree.specs.declared.form.Form.TheViews.{out-Form};
@@ -15,38 +15,8 @@ use super::names::is_adjustable;
 use f77_names::Facts;
 use f77_store::Place;
 use f77_tree::{DataConst, Declarator, Expr, Form, List, Name, Stmt, Value};
-use f77_values::{Bounds, Names, Table, evaluate};
+use f77_values::{Bounds, Names, Table, lower, upper};
 use std::alloc::{AllocError, Global};
-
-/// An integer value.
-pub fn whole(value: Option<Value>) -> Option<i64>
-    ensures { result ≡ s.whole value }
-{
-    match value {
-        Some(Value::Integer(n)) => Some(n),
-        _ => None,
-    }
-}
-
-/// A lower bound, where it is constant. One that isn't there is 1.
-pub fn lower(constants: &Table<Value>, bound: &Option<Expr>) -> Option<i64>
-    ensures { result ≡ s.lower constants.now bound.now }
-{
-    match bound {
-        Some(e) => whole(evaluate(constants, e)),
-        None => Some(1),
-    }
-}
-
-/// An upper bound, where it is constant.
-pub fn upper(constants: &Table<Value>, bound: &Option<Expr>) -> Option<i64>
-    ensures { result ≡ s.upper constants.now bound.now }
-{
-    match bound {
-        Some(e) => whole(evaluate(constants, e)),
-        None => None,
-    }
-}
 
 /// Whether an expression is constant: named constants of these, integers and truth values, in parentheses and between operators.
 #[tactic(auto, using(crate::proofs::Layers::layers))]

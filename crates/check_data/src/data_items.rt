@@ -9,10 +9,10 @@ ghost use Rattle.check_data.specs.DataItems as m;
 ghost use Rattle.check_constants.specs.Needed as n;
 
 use super::measures::Measured;
-use check_constants::{Defined, is_constant, whole};
+use check_constants::{Defined, is_constant};
 use f77_store::Place;
 use f77_tree::{DataConst, Expr, List, Name, UnitKind, Value};
-use f77_values::{Table, evaluate};
+use f77_values::{Table, evaluate, whole};
 
 fn misplaced(kind: UnitKind, commons: &Table<Place>, name: &Name) -> bool
     ensures { result ≡ m.misplaced kind (what commons.now name.now) }

@@ -7,9 +7,8 @@ ghost use Rattle.check_data.specs.DataTwice as t;
 ghost use Rattle.check_data.specs.Seen as s;
 
 use super::elements::{Elements, Subscripts};
-use check_constants::whole;
 use f77_tree::{DataConst, Expr, Form, List as Items, Name, Value};
-use f77_values::{Table, evaluate};
+use f77_values::{Table, evaluate, whole};
 use std::alloc::{AllocError, Global};
 
 /// All of a name, or its element with these subscripts.

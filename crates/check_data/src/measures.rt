@@ -4,9 +4,9 @@ ghost use Rattle.f77_tree.specs.declared.form.Form.TheViews.{out-Form};
 ghost use Rattle.f77_values.specs.Tables.{what};
 ghost use Rattle.check_data.specs.Measures as m;
 
-use check_constants::{Defined, define_in, lower, upper};
+use check_constants::{Defined, define_in};
 use f77_tree::{Declarator, Expr, Form, List, Name, Stmt, Value};
-use f77_values::{Bounds, Table};
+use f77_values::{Bounds, Table, lower, upper};
 use std::alloc::{AllocError, Global};
 
 /// An array's lower and upper bounds, as far as they are constant.

@@ -10,8 +10,7 @@ ghost use Rattle.check_data.specs.Pairing as p;
 
 use super::counts::size_of;
 use super::measures::Measured;
-use check_constants::type_of;
-use f77_names::Facts;
+use f77_names::{Facts, name_type};
 use f77_tree::{DataConst, Expr, List, Name, Ty, Value};
 use f77_values::{Table, evaluate};
 use std::alloc::{AllocError, Global};
@@ -63,8 +62,8 @@ fn item_type(facts: &Facts, item: &Expr) -> Option<Ty>
     ensures { result ≡ m.item_type facts.now (out-Expr item.now) }
 {
     match item {
-        Expr::Scalar(name) => type_of(facts, name),
-        Expr::Apply(name, _) => type_of(facts, name),
+        Expr::Scalar(name) => name_type(facts, name),
+        Expr::Apply(name, _) => name_type(facts, name),
         _ => None,
     }
 }
@@ -99,7 +98,7 @@ fn constant_type(facts: &Facts, value: &Expr) -> Option<Ty>
     match value {
         Expr::Int(_) => Some(Ty::Integer),
         Expr::Truth(_) => Some(Ty::Logical),
-        Expr::Scalar(name) => type_of(facts, name),
+        Expr::Scalar(name) => name_type(facts, name),
         _ => None,
     }
 }

@@ -3,7 +3,7 @@ ghost use Rattle.std.specs.Prelude.{◌≡◌, map, IfOk};
 ghost use Rattle.f77_names.specs.Roles as r;
 ghost use Rattle.prog_texts.specs.Signatures as s;
 
-use f77_names::{Facts, Role, known_name};
+use f77_names::{Facts, Role, known_name, name_type};
 use f77_tree::{List, Name, Ty, Unit, UnitKind};
 use std::alloc::{AllocError, Global};
 
@@ -62,13 +62,6 @@ fn dummies_of(alloc: Global, facts: &Facts, names: &List<Name>) -> Result<List<D
     Ok(all)
 }
 
-/// The type of a name.
-pub fn type_of(alloc: Global, facts: &Facts, name: &Name) -> Result<Option<Ty>, AllocError>
-    ensures { IfOk result (λ ty. ty ≡ r.type_of facts.now name.now) }
-{
-    Ok(known_name(alloc, facts, name)?.ty)
-}
-
 /// What a unit is to its callers, given its facts and its place.
 pub fn signature_of(
     alloc: Global,
@@ -78,7 +71,7 @@ pub fn signature_of(
 ) -> Result<Signature, AllocError>
     ensures { IfOk result (λ all. all ≡ s.signature_with facts.now unit.now place) }
 {
-    let result = type_of(alloc, facts, &unit.name)?;
+    let result = name_type(facts, &unit.name);
     let dummies = dummies_of(alloc, facts, &unit.dummies)?;
     Ok(Signature {
         kind: unit.kind,

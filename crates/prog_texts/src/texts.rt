@@ -4,9 +4,8 @@ ghost use Rattle.f77_tree.specs.declared.expr.Expr.{out-Expr};
 ghost use Rattle.prog_texts.specs.Mentions as m;
 
 use super::mentions::{Actual, Mention, Site, Wanted};
-use super::signatures::type_of;
 use check_types::expression_type;
-use f77_names::{Attributes, Facts, is_function};
+use f77_names::{Attributes, Facts, is_function, name_type};
 use f77_tree::{DataConst, Declarator, Expr, Form, List, Name, Stmt, Unit};
 use std::alloc::{AllocError, Global};
 
@@ -111,7 +110,7 @@ fn push_reference(
     ensures { OnOk result (found.new ≡ found.old ++ m.reference facts.now line name.now list.now) }
 {
     if is_function(&facts.attributes, name) {
-        let ty = type_of(alloc, facts, name)?;
+        let ty = name_type(facts, name);
         return push_site(alloc, found, facts, line, Wanted::Function(ty), name, list);
     }
     push_dummy(found, is_dummy_procedure(&facts.attributes, name), line)
