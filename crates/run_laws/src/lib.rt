@@ -1,6 +1,6 @@
 //! Why the meaning of programs is the right one: a step counts once, and a program without READ doesn't see its input.
 //!
-//! Nothing stands on these laws, which hold of every list of units:
+//! Nothing stands on these laws yet. They hold of every list of units, but for what a law itself asks:
 //!
 //! - `steps_law`: a step counts once. A run that doesn't go on came to be so at one of the steps that it could
 //!   begin: with each fewer number it goes on, and with that number and each greater one it is the same (`IsFrom`).

@@ -1,0 +1,4 @@
+pub mod Sees
+pub mod Terms
+pub mod Turns
+pub mod Runs
