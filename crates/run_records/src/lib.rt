@@ -1,7 +1,7 @@
 //! Records of a unit's calls and entries, and what it is to serve a unit.
 //!
 //! Definitions and laws alone, over `Behaviour`s of `run_calls`: what is lowered, what passes make of it, code and
-//! linked objects all cite these.
+//! linked objects all cite these. `docs/SERVES.md` tells them to a newcomer, with an example worked out.
 //!
 //! - `Records`: where own items stand, what a record tells, which worlds stand in for a call's, what an entry is.
 //! - `Rows`: what a call answers, as a row, and that a handler keeps to a record at a call.
