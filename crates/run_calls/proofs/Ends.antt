@@ -66,3 +66,10 @@ with_second (Stop Spent v) p P Q R s d f g = g d (subst (λ o. IfDefined o Q) s.
 with_second (Stop (Ended k) v) p P Q R s d f g = g d (subst (λ o. IfDefined o Q) s.is (f d))
 with_second (Stop (Undefined c) v) p P Q R s d f g = tt
 with_second (Stop Stuck v) p P Q R s d f g = tt
+
+pub if_holds : {A : Type 0} → (o : Outcome A) (P : Type 0) → P → IfDefined o P
+if_holds (Fine x v) P p = p
+if_holds (Stop Spent v) P p = p
+if_holds (Stop (Ended k) v) P p = p
+if_holds (Stop (Undefined c) v) P p = tt
+if_holds (Stop Stuck v) P p = tt

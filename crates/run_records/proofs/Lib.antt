@@ -1,0 +1,4 @@
+pub mod Stands
+pub mod Composed
+pub mod Rowed
+pub mod Narrowed
