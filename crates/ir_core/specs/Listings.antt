@@ -1,5 +1,5 @@
 -- What a body is, and what every body keeps to.
-use Rattle.std.specs.Prelude.{ℕ, List, Option, Some, None, Bool, true, not, ◌&&◌, nat_eq, nat_lt, length}
+use Rattle.std.specs.Prelude.{ℕ, List, Option, Some, None, Bool, true, not, ◌&&◌, nat_eq, nat_lt, length, if◌then◌else◌}
 use Rattle.std.specs.List.{list_all}
 use Rattle.ir_core.specs.declared.instruction.Base.{Base}
 use Rattle.ir_core.specs.declared.instruction.Base.TheVariants.{Dummy}
@@ -60,14 +60,23 @@ is_other (Some j) k = not (nat_eq j k)
 abbrev pub never_plain : List Block → ℕ → Bool
 never_plain blocks k = list_all (λ (b : Block). list_all (λ i. is_other (plain i) k) b.code) blocks
 
-abbrev pub is_apart : List Block → Option ℕ → Bool
-is_apart blocks None = true
-is_apart blocks (Some k) = never_plain blocks k
+-- of the dummy, if there is one
+abbrev pub if_some : (ℕ → Bool) → Option ℕ → Bool
+if_some test None = true
+if_some test (Some k) = test k
+
+-- the dummies that instructions load or store with an index pass the test
+abbrev pub all_indexed : (ℕ → Bool) → List Block → Bool
+all_indexed test blocks = list_all (λ (b : Block). list_all (λ i. if_some test (indexed i)) b.code) blocks
 
 -- a dummy that has an index somewhere has one everywhere
 abbrev pub dummies_agree : List Block → Bool
-dummies_agree blocks = list_all (λ (b : Block). list_all (λ i. is_apart blocks (indexed i)) b.code) blocks
+dummies_agree blocks = all_indexed (never_plain blocks) blocks
 
 -- There is a first block, numbers are in range, and each dummy stands in Loads and Stores always with an index or never.
 abbrev pub is_body : Listing → Bool
 is_body l = nat_lt 0 (length l.blocks) && (list_all (block_within l.temps (length l.blocks)) l.blocks && dummies_agree l.blocks)
+
+-- the body of these blocks and so many temporaries, if they are one's
+abbrev pub made : List Block → (temps : ℕ) → Option Listing
+made blocks n = if is_body (record { blocks = blocks; temps = n }) then Some (record { blocks = blocks; temps = n }) else None

@@ -1,8 +1,10 @@
 //! Bodies.
 ghost use Rattle.std.specs.Prelude.{◌≡◌, IsTrue, IfOk};
-ghost use Rattle.ir_core.specs.Listings.{is_body};
+ghost use Rattle.ir_core.specs.Listings as l;
+ghost use Rattle.ir_core.specs.Listings.{made};
 
 use super::block::Block;
+use super::checks::{all_within, dummies_agree};
 use f77_tree::{Duplicate, List};
 use std::alloc::{AllocError, Global};
 use std::marker::Model;
@@ -32,11 +34,31 @@ impl Drop for Body {
     }
 }
 
+fn is_body(alloc: Global, blocks: &[Block], temps: u32) -> Result<bool, AllocError>
+    ensures { IfOk result (λ is. is ≡ l.is_body (record { blocks = blocks.now; temps = temps })) }
+{
+    if blocks.is_empty() || !all_within(temps, blocks) {
+        return Ok(false);
+    }
+    dummies_agree(alloc, blocks)
+}
+
 impl Body {
+    /// The body of these blocks and so many temporaries, if they are one's.
+    pub fn new(alloc: Global, blocks: List<Block>, temps: u32) -> Result<Option<Body>, AllocError>
+        ensures { IfOk result (λ body. body ≡ made blocks temps) }
+    {
+        if is_body(alloc, blocks.as_slice(), temps)? {
+            Ok(Some(Body { blocks, temps }))
+        } else {
+            Ok(None)
+        }
+    }
+
     /// The blocks of a body.
     pub fn blocks(&self) -> &[Block]
         ensures blocks { result.now ≡ self.now.blocks }
-        ensures body { IsTrue (is_body self.now) }
+        ensures body { IsTrue (l.is_body self.now) }
     {
         self.blocks.as_slice()
     }

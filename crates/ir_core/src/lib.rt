@@ -15,10 +15,13 @@
 
 mod block;
 mod body;
+mod builder;
+mod checks;
 mod instruction;
 mod places;
 
 pub use block::{Block, End};
 pub use body::Body;
+pub use builder::Builder;
 pub use instruction::{Base, Calc, Instr, Seat, Spot};
 pub use places::Places;
