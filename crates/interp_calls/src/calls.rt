@@ -18,21 +18,22 @@ ghost use Rattle.interp_steps.specs.Worlds.{world_of};
 ghost use Rattle.interp_turns.specs.Places.{here_of, Stands};
 ghost use Rattle.interp_turns.specs.Turns.{after_of};
 ghost use Rattle.interp_lower.specs.Lines.{IsPiece};
-ghost use Rattle.interp_calls.specs.Calls.{handler, Answers};
+ghost use Rattle.interp_calls.specs.Calls.{Answers, InUnit, Runs};
 ghost use Rattle.interp_calls.specs.Entries.{fixed};
-ghost use Rattle.interp_calls.specs.Procedures.{Represents, IsOf};
+ghost use Rattle.interp_calls.specs.Procedures.{Represents};
 ghost use Rattle.interp_calls.specs.Sending.{Sends, IsWhole};
 
 use super::answers::{performed, referred};
+use super::caller::Caller;
 use super::entries::{clear, entered};
 use super::halt::Halt;
-use super::lines::{advance_at, inner_piece, piece, variable};
+use super::lines::{Numbered, advance_at, inner_piece, piece, variable};
 use super::procedure::{Procedure, place};
 use super::sending::{halting, send_after};
 use super::shapes::fix_shape;
 use f77_tree::Value;
 use interp_code::Step;
-use interp_lower::{DummyArray, Piece};
+use interp_lower::DummyArray;
 use interp_steps::{Frame, Interval, Operand, State, Stop, pop_passed, step};
 use interp_turns::{Here, Point, Turn, finish, tested};
 use rn_ports::Sink;
@@ -50,7 +51,9 @@ pub fn call<'p, 'u, O: Sink>(
     out: &mut O,
 ) -> Result<Option<Value>, Halt>
     requires sent { state.old.out.items ≡ [] }
-    ensures run { (all : List program.Routine) → (units : r.Program) → Represents procedures.now all units → (q : Name) → slice_get all at ≡ Some (units q) → Sends result (λ v. a.Fine (option_map stored v)) (world_of state.old) (world_of state.new) (O.written out.old) (O.written out.new) (r.meaning units depth q (map interval_of actuals.now)) }
+    ensures run { (all : List program.Routine) → (units : r.Program) → Represents procedures.now all units → (q : Name) → slice_get all at ≡ Some (units q)
+        → Sends result (λ v. a.Fine (option_map stored v)) (world_of state.old) (world_of state.new) (O.written out.old) (O.written out.new)
+        (r.meaning units depth q (map interval_of actuals.now)) }
     ensures sent { IsWhole result → state.new.out.items ≡ [] }
     ensures cause { HasCause (O.faults out.old) (O.faults out.new) (result ≡ Err Halt.WriteFault) }
 {
@@ -58,7 +61,15 @@ pub fn call<'p, 'u, O: Sink>(
         return Err(Halt::Stop(Stop::Stuck));
     }
     match procedures.get(at) {
-        Some(procedure) => run(alloc, procedures, procedure, actuals, depth - 1, state, out),
+        Some(procedure) => {
+            let caller = Caller {
+                alloc,
+                procedures,
+                procedure,
+                depth: depth - 1,
+            };
+            run(caller, actuals, state, out)
+        }
         None => Err(Halt::Stop(Stop::Stuck)),
     }
 }
@@ -66,42 +77,38 @@ pub fn call<'p, 'u, O: Sink>(
 // The run of a unit on actual arguments.
 #[cycle(runs)]
 fn run<'p, 'u, O: Sink>(
-    alloc: Global,
-    procedures: &'p [Procedure<'u>],
-    procedure: &'p Procedure<'u>,
+    caller: Caller<'p, 'u>,
     actuals: &[Interval<'p>],
-    depth: usize,
     state: &mut State,
     out: &mut O,
 ) -> Result<Option<Value>, Halt>
     requires sent { state.old.out.items ≡ [] }
-    ensures run { (units : r.Program) → (u : program.Routine) → IsOf procedures.now procedure.now units u → Sends result (λ v. a.Fine (option_map stored v)) (world_of state.old) (world_of state.new) (O.written out.old) (O.written out.new) (r.run_unit (handler units depth u) u (map interval_of actuals.now)) }
+    ensures run { Runs result (option_map stored) caller.entry (world_of state.old) (world_of state.new) (O.written out.old) (O.written out.new)
+        (λ u h. r.run_unit h u (map interval_of actuals.now)) }
     ensures sent { IsWhole result → state.new.out.items ≡ [] }
     ensures cause { HasCause (O.faults out.old) (O.faults out.new) (result ≡ Err Halt.WriteFault) }
 {
-    clear(procedure, state);
-    let mut frame = entered(alloc, procedure, actuals)?;
-    run_entered(alloc, procedures, procedure, depth, &mut frame, state, out)
+    clear(caller.procedure, state);
+    let mut frame = entered(caller.alloc, caller.procedure, actuals)?;
+    run_entered(caller, &mut frame, state, out)
 }
 
 // The run of a unit from its entry on.
 #[cycle(runs)]
 fn run_entered<'p, 'u, O: Sink>(
-    alloc: Global,
-    procedures: &'p [Procedure<'u>],
-    procedure: &'p Procedure<'u>,
-    depth: usize,
+    caller: Caller<'p, 'u>,
     frame: &mut Frame<'p>,
     state: &mut State,
     out: &mut O,
 ) -> Result<Option<Value>, Halt>
     requires sent { state.old.out.items ≡ [] }
-    ensures run { (units : r.Program) → (u : program.Routine) → IsOf procedures.now procedure.now units u → Sends result (λ v. a.Fine (option_map stored v)) (world_of state.old) (world_of state.new) (O.written out.old) (O.written out.new) (λ v. a.then_do (a.play (handler units depth u) (r.entry (frame_of frame.old) u.dummy_arrays) v) (λ f w. t.run_from (handler units depth u) (s.turn u f) (r.beginning u) w)) }
+    ensures run { Runs result (option_map stored) caller.entry (world_of state.old) (world_of state.new) (O.written out.old) (O.written out.new)
+        (λ u h v. a.then_do (a.play h (r.entry (frame_of frame.old) u.dummy_arrays) v) (λ f w. t.run_from h (s.turn u f) (r.beginning u) w)) }
     ensures sent { IsWhole result → state.new.out.items ≡ [] }
     ensures cause { HasCause (O.faults out.old) (O.faults out.new) (result ≡ Err Halt.WriteFault) }
 {
-    match dimension(alloc, procedures, procedure, depth, frame, state, out) {
-        Ok(()) => run_turns(alloc, procedures, procedure, frame, depth, state, out),
+    match dimension(caller, frame, state, out) {
+        Ok(()) => run_turns(caller, frame, state, out),
         Err(halt) => Err(halt),
     }
 }
@@ -109,24 +116,21 @@ fn run_entered<'p, 'u, O: Sink>(
 // Evaluates the bounds of the dummy arrays, in the order of the dummies.
 #[cycle(runs)]
 fn dimension<'p, 'u, O: Sink>(
-    alloc: Global,
-    procedures: &'p [Procedure<'u>],
-    procedure: &'p Procedure<'u>,
-    depth: usize,
+    caller: Caller<'p, 'u>,
     frame: &mut Frame<'p>,
     state: &mut State,
     out: &mut O,
 ) -> Result<(), Halt>
     requires sent { state.old.out.items ≡ [] }
-    ensures run { (units : r.Program) → (u : program.Routine) → IsOf procedures.now procedure.now units u → Sends result (λ _. a.Fine (frame_of frame.new)) (world_of state.old) (world_of state.new) (O.written out.old) (O.written out.new) (a.play (handler units depth u) (r.entry (frame_of frame.old) u.dummy_arrays)) }
+    ensures run { Runs result (λ _. frame_of frame.new) caller.entry (world_of state.old) (world_of state.new) (O.written out.old) (O.written out.new)
+        (λ u h. a.play h (r.entry (frame_of frame.old) u.dummy_arrays)) }
     ensures sent { IsWhole result → state.new.out.items ≡ [] }
     ensures cause { HasCause (O.faults out.old) (O.faults out.new) (result ≡ Err Halt.WriteFault) }
 {
-    let mut stack = Vec::new(alloc);
+    let procedure = caller.procedure;
+    let mut stack = Vec::new(caller.alloc);
     for array in procedure.routine.dummy_arrays.as_slice() {
-        match dimension_one(
-            alloc, procedures, procedure, depth, array, frame, &mut stack, state, out,
-        ) {
+        match dimension_one(caller, array, frame, &mut stack, state, out) {
             Ok(()) => {}
             Err(halt) => return Err(halt),
         }
@@ -137,10 +141,7 @@ fn dimension<'p, 'u, O: Sink>(
 // Evaluates the bounds of a dummy array, and fixes its shape.
 #[cycle(runs)]
 fn dimension_one<'p, 'u, O: Sink>(
-    alloc: Global,
-    procedures: &'p [Procedure<'u>],
-    procedure: &'p Procedure<'u>,
-    depth: usize,
+    caller: Caller<'p, 'u>,
     array: &'p DummyArray,
     frame: &mut Frame<'p>,
     stack: &mut Vec<Operand<'p>>,
@@ -148,16 +149,15 @@ fn dimension_one<'p, 'u, O: Sink>(
     out: &mut O,
 ) -> Result<(), Halt>
     requires sent { state.old.out.items ≡ [] }
-    ensures run { (units : r.Program) → (u : program.Routine) → IsOf procedures.now procedure.now units u → Sends result (λ _. a.Fine (frame_of frame.new)) (world_of state.old) (world_of state.new) (O.written out.old) (O.written out.new) (a.play (handler units depth u) (a.and_then (c.steps (frame_of frame.old) array.now.bounds []) (fixed (frame_of frame.old) array.now.dummy))) }
+    ensures run { Runs result (λ _. frame_of frame.new) caller.entry (world_of state.old) (world_of state.new) (O.written out.old) (O.written out.new)
+        (λ u h. a.play h (a.and_then (c.steps (frame_of frame.old) array.now.bounds []) (fixed (frame_of frame.old) array.now.dummy))) }
     ensures sent { IsWhole result → state.new.out.items ≡ [] }
     ensures cause { HasCause (O.faults out.old) (O.faults out.new) (result ≡ Err Halt.WriteFault) }
 {
     stack.clear();
     let bounds = array.bounds.as_slice();
-    match run_steps(
-        alloc, procedures, procedure, frame, bounds, depth, stack, state, out,
-    ) {
-        Ok(()) => halting(fix_shape(alloc, frame, array.dummy, stack)),
+    match run_steps(caller, frame, bounds, stack, state, out) {
+        Ok(()) => halting(fix_shape(caller.alloc, frame, array.dummy, stack)),
         Err(halt) => Err(halt),
     }
 }
@@ -165,31 +165,28 @@ fn dimension_one<'p, 'u, O: Sink>(
 // Turns from the beginning of a unit, each of which begins a step. A turn takes one of the steps that are left, so there are never more.
 #[cycle(runs)]
 fn run_turns<'p, 'u, O: Sink>(
-    alloc: Global,
-    procedures: &'p [Procedure<'u>],
-    procedure: &'p Procedure<'u>,
+    caller: Caller<'p, 'u>,
     frame: &Frame<'p>,
-    depth: usize,
     state: &mut State,
     out: &mut O,
 ) -> Result<Option<Value>, Halt>
     requires sent { state.old.out.items ≡ [] }
-    ensures run { (units : r.Program) → (u : program.Routine) → IsOf procedures.now procedure.now units u → Sends result (λ v. a.Fine (option_map stored v)) (world_of state.old) (world_of state.new) (O.written out.old) (O.written out.new) (t.run_from (handler units depth u) (s.turn u (frame_of frame.now)) (r.beginning u)) }
+    ensures run { Runs result (option_map stored) caller.entry (world_of state.old) (world_of state.new) (O.written out.old) (O.written out.new)
+        (λ u h. t.run_from h (s.turn u (frame_of frame.now)) (r.beginning u)) }
     ensures sent { IsWhole result → state.new.out.items ≡ [] }
     ensures cause { HasCause (O.faults out.old) (O.faults out.new) (result ≡ Err Halt.WriteFault) }
 {
+    let procedure = caller.procedure;
     let first = procedure.control.first() as usize;
-    let mut here = Here::new(alloc, first, procedure.control.statements.len())?;
-    let mut stack = Vec::new(alloc);
+    let mut here = Here::new(caller.alloc, first, procedure.control.statements.len())?;
+    let mut stack = Vec::new(caller.alloc);
     let mut more = state.left;
     'turns: loop {
         match state.tick() {
             Ok(()) => {}
             Err(stop) => return Err(Halt::Stop(stop)),
         }
-        let taken = take_turn(
-            alloc, procedures, procedure, frame, depth, &mut here, &mut stack, state, out,
-        );
+        let taken = take_turn(caller, frame, &mut here, &mut stack, state, out);
         match send_after(taken, state, out) {
             Ok(Turn::Again) => {}
             Ok(Turn::Result(answer)) => return Ok(answer),
@@ -204,34 +201,36 @@ fn run_turns<'p, 'u, O: Sink>(
 
 #[cycle(runs)]
 fn take_turn<'p, 'u, O: Sink>(
-    alloc: Global,
-    procedures: &'p [Procedure<'u>],
-    procedure: &'p Procedure<'u>,
+    caller: Caller<'p, 'u>,
     frame: &Frame<'p>,
-    depth: usize,
     here: &mut Here,
     stack: &mut Vec<Operand<'p>>,
     state: &mut State,
     out: &mut O,
 ) -> Result<Turn, Halt>
-    requires stands { Stands (length procedure.now.control.statements.now) here.old }
+    requires stands { Stands (length caller.procedure.now.control.statements.now) here.old }
     requires sent { state.old.out.items ≡ [] }
-    ensures turn { (units : r.Program) → (u : program.Routine) → IsOf procedures.now procedure.now units u → Sends result (λ y. a.Fine (after_of y here.new)) (world_of state.old) (world_of state.new) (O.written out.old) (O.written out.new) (a.play (handler units depth u) (s.turn u (frame_of frame.now) (here_of here.old))) }
-    ensures stands { OnOk result (Stands (length procedure.now.control.statements.now) here.new) }
+    ensures turn { Runs result (λ y. after_of y here.new) caller.entry (world_of state.old) (world_of state.new) (O.written out.old) (O.written out.new)
+        (λ u h. a.play h (s.turn u (frame_of frame.now) (here_of here.old))) }
+    ensures stands { OnOk result (Stands (length caller.entry.procedure.now.control.statements.now) here.new) }
     ensures cause { HasCause (O.faults out.old) (O.faults out.new) (result ≡ Err Halt.WriteFault) }
 {
+    let procedure = caller.procedure;
     match here.point {
         Point::At(k) => match piece(procedure, k) {
-            Some(piece) => perform(
-                alloc, procedures, procedure, frame, piece, k, depth, here, stack, state, out,
-            ),
+            Some(piece) => {
+                let numbered = Numbered { number: k, piece };
+                perform(caller, frame, numbered, here, stack, state, out)
+            }
             None => Err(Halt::Stop(Stop::Stuck)),
         },
         Point::Inside(k) => match inner_piece(procedure, k) {
             Some(inner) => {
-                let turn = perform(
-                    alloc, procedures, procedure, frame, inner, k, depth, here, stack, state, out,
-                );
+                let numbered = Numbered {
+                    number: k,
+                    piece: inner,
+                };
+                let turn = perform(caller, frame, numbered, here, stack, state, out);
                 turn
             }
             None => Err(Halt::Stop(Stop::Stuck)),
@@ -240,46 +239,44 @@ fn take_turn<'p, 'u, O: Sink>(
             tested(&procedure.control, k, here);
             Ok(Turn::Again)
         }
-        Point::Advance(k) => halting(advance_at(alloc, procedure, frame, k, here, state)),
+        Point::Advance(k) => halting(advance_at(caller.alloc, procedure, frame, k, here, state)),
     }
 }
 
 // The turn of a statement: its steps, and its end.
 #[cycle(runs)]
 fn perform<'p, 'u, O: Sink>(
-    alloc: Global,
-    procedures: &'p [Procedure<'u>],
-    procedure: &'p Procedure<'u>,
+    caller: Caller<'p, 'u>,
     frame: &Frame<'p>,
-    piece: &'p Piece,
-    k: usize,
-    depth: usize,
+    numbered: Numbered<'p>,
     here: &mut Here,
     stack: &mut Vec<Operand<'p>>,
     state: &mut State,
     out: &mut O,
 ) -> Result<Turn, Halt>
-    requires statement { k < length procedure.now.control.statements.now }
-    requires stands { Stands (length procedure.now.control.statements.now) here.old }
+    requires statement { numbered.number < length caller.procedure.now.control.statements.now }
+    requires stands { Stands (length caller.procedure.now.control.statements.now) here.old }
     requires sent { state.old.out.items ≡ [] }
-    ensures turn { (units : r.Program) → (u : program.Routine) → IsOf procedures.now procedure.now units u → (x : program.Statement) → IsPiece piece.now x → Sends result (λ y. a.Fine (after_of y here.new)) (world_of state.old) (world_of state.new) (O.written out.old) (O.written out.new) (a.play (handler units depth u) (s.perform u (frame_of frame.now) (here_of here.old) k x)) }
-    ensures stands { OnOk result (Stands (length procedure.now.control.statements.now) here.new) }
+    ensures turn { (x : program.Statement) → IsPiece numbered.entry.piece.now x
+        → Runs result (λ y. after_of y here.new) caller.entry (world_of state.old) (world_of state.new) (O.written out.old) (O.written out.new)
+        (λ u h. a.play h (s.perform u (frame_of frame.now) (here_of here.old) numbered.entry.number x)) }
+    ensures stands { OnOk result (Stands (length caller.entry.procedure.now.control.statements.now) here.new) }
     ensures cause { HasCause (O.faults out.old) (O.faults out.new) (result ≡ Err Halt.WriteFault) }
 {
     stack.clear();
+    let procedure = caller.procedure;
+    let piece = numbered.piece;
     let steps = piece.steps.as_slice();
-    match run_steps(
-        alloc, procedures, procedure, frame, steps, depth, stack, state, out,
-    ) {
+    match run_steps(caller, frame, steps, stack, state, out) {
         Ok(()) => {
             let variable = variable(&procedure.routine);
             let operands = stack.as_slice();
             halting(finish(
-                alloc,
+                caller.alloc,
                 &procedure.control,
                 frame,
                 variable,
-                k,
+                numbered.number,
                 &piece.ending,
                 operands,
                 here,
@@ -293,25 +290,21 @@ fn perform<'p, 'u, O: Sink>(
 // Steps one after another.
 #[cycle(runs)]
 fn run_steps<'p, 'u, O: Sink>(
-    alloc: Global,
-    procedures: &'p [Procedure<'u>],
-    procedure: &'p Procedure<'u>,
+    caller: Caller<'p, 'u>,
     frame: &Frame<'p>,
     steps: &'p [Step],
-    depth: usize,
     stack: &mut Vec<Operand<'p>>,
     state: &mut State,
     out: &mut O,
 ) -> Result<(), Halt>
     requires sent { state.old.out.items ≡ [] }
-    ensures run { (units : r.Program) → (u : program.Routine) → IsOf procedures.now procedure.now units u → Sends result (λ _. a.Fine (stack_of stack.new.items)) (world_of state.old) (world_of state.new) (O.written out.old) (O.written out.new) (a.play (handler units depth u) (c.steps (frame_of frame.now) steps.now (stack_of stack.old.items))) }
+    ensures run { Runs result (λ _. stack_of stack.new.items) caller.entry (world_of state.old) (world_of state.new) (O.written out.old) (O.written out.new)
+        (λ u h. a.play h (c.steps (frame_of frame.now) steps.now (stack_of stack.old.items))) }
     ensures sent { IsWhole result → state.new.out.items ≡ [] }
     ensures cause { HasCause (O.faults out.old) (O.faults out.new) (result ≡ Err Halt.WriteFault) }
 {
     for one in steps {
-        match take_step(
-            alloc, procedures, procedure, frame, one, depth, stack, state, out,
-        ) {
+        match take_step(caller, frame, one, stack, state, out) {
             Ok(()) => {}
             Err(halt) => return Err(halt),
         }
@@ -321,58 +314,58 @@ fn run_steps<'p, 'u, O: Sink>(
 
 #[cycle(runs)]
 fn take_step<'p, 'u, O: Sink>(
-    alloc: Global,
-    procedures: &'p [Procedure<'u>],
-    procedure: &'p Procedure<'u>,
+    caller: Caller<'p, 'u>,
     frame: &Frame<'p>,
     one: &'p Step,
-    depth: usize,
     stack: &mut Vec<Operand<'p>>,
     state: &mut State,
     out: &mut O,
 ) -> Result<(), Halt>
     requires sent { state.old.out.items ≡ [] }
-    ensures run { (units : r.Program) → (u : program.Routine) → IsOf procedures.now procedure.now units u → Sends result (λ _. a.Fine (stack_of stack.new.items)) (world_of state.old) (world_of state.new) (O.written out.old) (O.written out.new) (a.play (handler units depth u) (c.step (frame_of frame.now) one.now (stack_of stack.old.items))) }
+    ensures run { Runs result (λ _. stack_of stack.new.items) caller.entry (world_of state.old) (world_of state.new) (O.written out.old) (O.written out.new)
+        (λ u h. a.play h (c.step (frame_of frame.now) one.now (stack_of stack.old.items))) }
     ensures sent { IsWhole result → state.new.out.items ≡ [] }
     ensures cause { HasCause (O.faults out.old) (O.faults out.new) (result ≡ Err Halt.WriteFault) }
 {
     match one {
         Step::Refer(site) => {
-            let answer = call_at(
-                alloc, procedures, procedure, *site, depth, stack, state, out,
-            );
+            let answer = call_at(caller, *site, stack, state, out);
             referred(answer, stack)
         }
         Step::Perform(site) => {
-            let end = call_at(
-                alloc, procedures, procedure, *site, depth, stack, state, out,
-            );
+            let end = call_at(caller, *site, stack, state, out);
             performed(end)
         }
-        _ => halting(step(alloc, frame, one, stack, state)),
+        _ => halting(step(caller.alloc, frame, one, stack, state)),
     }
 }
 
 // Calls at a site, on the actual arguments that end the stack.
 #[cycle(runs)]
 fn call_at<'p, 'u, O: Sink>(
-    alloc: Global,
-    procedures: &'p [Procedure<'u>],
-    procedure: &'p Procedure<'u>,
+    caller: Caller<'p, 'u>,
     site: usize,
-    depth: usize,
     stack: &mut Vec<Operand<'p>>,
     state: &mut State,
     out: &mut O,
 ) -> Result<Option<Value>, Halt>
     requires sent { state.old.out.items ≡ [] }
-    ensures run { (units : r.Program) → (u : program.Routine) → IsOf procedures.now procedure.now units u → Answers result (handler units depth u) site (stack_of stack.old.items) (stack_of stack.new.items) (world_of state.old) (world_of state.new) (O.written out.old) (O.written out.new) }
+    ensures run { InUnit caller.entry (λ u h. Answers result h site (stack_of stack.old.items) (stack_of stack.new.items)
+        (world_of state.old) (world_of state.new) (O.written out.old) (O.written out.new)) }
     ensures sent { IsWhole result → state.new.out.items ≡ [] }
     ensures cause { HasCause (O.faults out.old) (O.faults out.new) (result ≡ Err Halt.WriteFault) }
 {
-    let at = place(procedure, site);
-    match pop_passed(alloc, stack)? {
-        Some(actuals) => call(alloc, procedures, at, actuals.as_slice(), depth, state, out),
+    let at = place(caller.procedure, site);
+    match pop_passed(caller.alloc, stack)? {
+        Some(actuals) => call(
+            caller.alloc,
+            caller.procedures,
+            at,
+            actuals.as_slice(),
+            caller.depth,
+            state,
+            out,
+        ),
         None => Err(Halt::Stop(Stop::Stuck)),
     }
 }

@@ -31,6 +31,7 @@
 
 mod answers;
 mod bounds;
+mod caller;
 mod calls;
 mod entries;
 mod halt;

@@ -20,6 +20,13 @@ use interp_steps::{Frame, State, Stop};
 use interp_turns::{Here, Turn, advance};
 use std::alloc::Global;
 
+/// A statement to be performed: its number, and its piece.
+#[derive(Clone, Copy)]
+pub struct Numbered<'p> {
+    pub number: usize,
+    pub piece: &'p Piece,
+}
+
 fn line<'p, 'u>(procedure: &'p Procedure<'u>, k: usize) -> Option<&'p Line>
     ensures within { IfSome result (λ _. k < length procedure.now.control.statements.now) }
     ensures line { (find : Name → ℕ) → (u : program.Routine) → p.IsUnit find procedure.now u → MatchOption result (s.statement u k ≡ program.NoStatement) (λ l. IsLine l.now (s.statement u k)) }

@@ -62,20 +62,20 @@ call-returns-in-None-clause-run g t c = λ all units rep q e.
 
 pub call_at-returns-in-Some-clause-run : goal.call_at-returns-in-Some-clause-run
 call_at-returns-in-Some-clause-run g t c = λ units u of.
-    let p = c.args.procedure.now in
+    let p = c.args.caller.procedure.now in
     let site = c.args.site in
-    let h = handler units c.args.depth u in
+    let h = handler units c.args.caller.depth u in
     let here : c.place-at.result ≡ place p.own p.callees.items site = search rules in
-    let found = ap (λ k. slice_get of.all k) here ∙ callee_found c.args.procedures.now p units u of site in
+    let found = ap (λ k. slice_get of.all k) here ∙ callee_found c.args.caller.procedures.now p units u of site in
     let same : c.as_slice.result.now ≡ c.in-Some.actuals.items = search rules in
     let ds = map interval_of c.as_slice.result.now in
     let passed : passed_above (stack_of c.args.stack.now.items) [] ≡ Some (map interval_of c.in-Some.actuals.items, stack_of c.pop_passed.new.stack.items) = search rules in
     let taken : passed_above (stack_of c.args.stack.now.items) [] ≡ Some (ds, stack_of c.pop_passed.new.stack.items) = passed ∙ ap (λ l. Some (map interval_of l, stack_of c.pop_passed.new.stack.items)) (sym same) in
-    answered h (handler_appends units c.args.depth u) site (stack_of c.args.stack.now.items) (stack_of c.pop_passed.new.stack.items) (world_of c.args.state.now) (world_of c.call.new.state) (g.O.Sink.written c.args.out.now) (g.O.Sink.written c.call.new.out) c.call.result ds taken (c.call.ensures.run of.all units of.represents (callee u site) found)
+    answered h (handler_appends units c.args.caller.depth u) site (stack_of c.args.stack.now.items) (stack_of c.pop_passed.new.stack.items) (world_of c.args.state.now) (world_of c.call.new.state) (g.O.Sink.written c.args.out.now) (g.O.Sink.written c.call.new.out) c.call.result ds taken (c.call.ensures.run of.all units of.represents (callee u site) found)
 
 pub take_step-returns-in-Refer-clause-run : goal.take_step-returns-in-Refer-clause-run
 take_step-returns-in-Refer-clause-run g t c = λ units u of.
-    let h = handler units c.args.depth u in
+    let h = handler units c.args.caller.depth u in
     let f = frame_of c.args.frame.now in
     let s = stack_of c.args.stack.now.items in
     let w = world_of c.args.state.now in
@@ -83,11 +83,11 @@ take_step-returns-in-Refer-clause-run g t c = λ units u of.
     let a = g.O.Sink.written c.args.out.now in
     let b = g.O.Sink.written c.call_at-answer.new.out in
     subst (λ (x : Step). Sends c.referred.result (λ _. Fine (stack_of c.referred.new.stack.items)) w w1 a b (play h (step f x s))) (sym c.in-Refer.is)
-    (c.referred.ensures.run h (handler_appends units c.args.depth u) f c.in-Refer.site s w w1 a b (c.call_at-answer.ensures.run units u of))
+    (c.referred.ensures.run h (handler_appends units c.args.caller.depth u) f c.in-Refer.site s w w1 a b (c.call_at-answer.ensures.run units u of))
 
 pub take_step-returns-in-Perform-clause-run : goal.take_step-returns-in-Perform-clause-run
 take_step-returns-in-Perform-clause-run g t c = λ units u of.
-    let h = handler units c.args.depth u in
+    let h = handler units c.args.caller.depth u in
     let f = frame_of c.args.frame.now in
     let s = stack_of c.args.stack.now.items in
     let w = world_of c.args.state.now in
@@ -99,7 +99,7 @@ take_step-returns-in-Perform-clause-run g t c = λ units u of.
 
 pub run_steps-loop-one-init : goal.run_steps-loop-one-init
 run_steps-loop-one-init g t c = record {
-  run = λ units u of. sends_none (world_of c.args.state.now) (g.O.Sink.written c.args.out.now) tt (λ _. play (handler units c.args.depth u) (steps (frame_of c.args.frame.now) c.args.steps.now (stack_of c.args.stack.now.items))) (play (handler units c.args.depth u) (steps (frame_of c.args.frame.now) c.args.steps.now (stack_of c.args.stack.now.items))) (λ sent. refl);
+  run = λ units u of. sends_none (world_of c.args.state.now) (g.O.Sink.written c.args.out.now) tt (λ _. play (handler units c.args.caller.depth u) (steps (frame_of c.args.frame.now) c.args.steps.now (stack_of c.args.stack.now.items))) (play (handler units c.args.caller.depth u) (steps (frame_of c.args.frame.now) c.args.steps.now (stack_of c.args.stack.now.items))) (λ sent. refl);
   sent = search rules;
   later = omega arith;
 }
@@ -107,7 +107,7 @@ run_steps-loop-one-init g t c = record {
 pub run_steps-loop-one-preserved : goal.run_steps-loop-one-preserved
 run_steps-loop-one-preserved g t c = record {
   run = λ units u of.
-      let h = handler units c.args.depth u in
+      let h = handler units c.args.caller.depth u in
       let f = frame_of c.args.frame.now in
       let cs = c.args.steps.now in
       let i = c.loop-one.one-index in
@@ -122,14 +122,14 @@ run_steps-loop-one-preserved g t c = record {
       let rest : Operands → World → Outcome Operands = λ x v. play h (steps f (drop (i + 1) cs) x) v in
       sends_onward (world_of c.args.state.now) w a b tt (λ _. play h (steps f (drop i cs) s)) (play h (steps f cs (stack_of c.args.stack.now.items))) w1 d (Ok tt) (λ _. rest s1) (c.loop-one.invariant.run units u of)
       (sends_from w w1 b d (Ok tt) (λ _. rest s1) (λ v. then_do (play h (step f c.one-item.result s) v) rest) (play h (steps f (drop i cs) s)) w (λ sent. step_and_rest h f cs i c.one-item.result s here (behind sent w))
-      (sends_then w w1 b d (Ok tt) (λ _. Fine s1) (play h (step f c.one-item.result s)) rest (λ x. acts_append h (handler_appends units c.args.depth u) (steps f (drop (i + 1) cs) x)) (c.in-Ok.ensures.run units u of)));
+      (sends_then w w1 b d (Ok tt) (λ _. Fine s1) (play h (step f c.one-item.result s)) rest (λ x. acts_append h (handler_appends units c.args.caller.depth u) (steps f (drop (i + 1) cs) x)) (c.in-Ok.ensures.run units u of)));
   sent = search rules;
   later = omega arith;
 }
 
 pub run_steps-returns-in-Err-clause-run : goal.run_steps-returns-in-Err-clause-run
 run_steps-returns-in-Err-clause-run g t c = λ units u of.
-    let h = handler units c.args.depth u in
+    let h = handler units c.args.caller.depth u in
     let f = frame_of c.args.frame.now in
     let cs = c.args.steps.now in
     let i = c.loop-one.one-index in
@@ -146,11 +146,11 @@ run_steps-returns-in-Err-clause-run g t c = λ units u of.
     sends_onward (world_of c.args.state.now) w a b tt (λ _. play h (steps f (drop i cs) s)) (play h (steps f cs (stack_of c.args.stack.now.items))) w1 d (Err e) (λ _. Fine s1) (c.loop-one.invariant.run units u of)
     (sends_from w w1 b d (Err e) (λ _. Fine s1) (λ v. then_do (play h (step f c.one-item.result s) v) rest) (play h (steps f (drop i cs) s)) w (λ sent. step_and_rest h f cs i c.one-item.result s here (behind sent w))
     (sends_left w w1 b d e (λ _. rest s1) (λ _. Fine s1) (λ v. then_do (play h (step f c.one-item.result s) v) rest)
-    (sends_then w w1 b d (Err e) (λ _. Fine s1) (play h (step f c.one-item.result s)) rest (λ x. acts_append h (handler_appends units c.args.depth u) (steps f (drop (i + 1) cs) x)) (c.in-Err.ensures.run units u of))))
+    (sends_then w w1 b d (Err e) (λ _. Fine s1) (play h (step f c.one-item.result s)) rest (λ x. acts_append h (handler_appends units c.args.caller.depth u) (steps f (drop (i + 1) cs) x)) (c.in-Err.ensures.run units u of))))
 
 pub run_steps-returns-clause-run : goal.run_steps-returns-clause-run
 run_steps-returns-clause-run g t c = λ units u of.
-    let h = handler units c.args.depth u in
+    let h = handler units c.args.caller.depth u in
     let f = frame_of c.args.frame.now in
     let cs = c.args.steps.now in
     let i = c.loop-one.one-index in
@@ -160,13 +160,13 @@ run_steps-returns-clause-run g t c = λ units u of.
     (λ sent. steps_done h f cs i s (behind sent w) (all_gone cs i c.loop-one-test.false)) (c.loop-one.invariant.run units u of)
 
 pub perform-returns-in-Ok-clause-turn : goal.perform-returns-in-Ok-clause-turn
-perform-returns-in-Ok-clause-turn g t c = λ units u of x is.
-    let h = handler units c.args.depth u in
-    let all = handler_appends units c.args.depth u in
+perform-returns-in-Ok-clause-turn g t c = λ x is units u of.
+    let h = handler units c.args.caller.depth u in
+    let all = handler_appends units c.args.caller.depth u in
     let f = frame_of c.args.frame.now in
     let s = here_of c.args.here.now in
-    let k = c.args.k in
-    let p = c.args.piece.now in
+    let k = c.args.numbered.number in
+    let p = c.args.numbered.piece.now in
     let w = world_of c.args.state.now in
     let w1 = world_of c.run_steps.new.state in
     let w2 = world_of c.finish.new.state in
@@ -189,13 +189,13 @@ perform-returns-in-Ok-clause-turn g t c = λ units u of x is.
     (sends_so w1 b (rest os) (acts_append h all (ending os)) w2 c.finish.result (λ y. after_of y c.finish.new.here) end)))
 
 pub perform-returns-in-Err-clause-turn : goal.perform-returns-in-Err-clause-turn
-perform-returns-in-Err-clause-turn g t c = λ units u of x is.
-    let h = handler units c.args.depth u in
-    let all = handler_appends units c.args.depth u in
+perform-returns-in-Err-clause-turn g t c = λ x is units u of.
+    let h = handler units c.args.caller.depth u in
+    let all = handler_appends units c.args.caller.depth u in
     let f = frame_of c.args.frame.now in
     let s = here_of c.args.here.now in
-    let k = c.args.k in
-    let p = c.args.piece.now in
+    let k = c.args.numbered.number in
+    let p = c.args.numbered.piece.now in
     let w = world_of c.args.state.now in
     let w1 = world_of c.run_steps.new.state in
     let a = g.O.Sink.written c.args.out.now in
@@ -214,23 +214,23 @@ perform-returns-in-Err-clause-turn g t c = λ units u of x is.
 
 pub take_turn-returns-in-Some-clause-turn : goal.take_turn-returns-in-Some-clause-turn
 take_turn-returns-in-Some-clause-turn g t c = λ units u of.
-    let h = handler units c.args.depth u in
+    let h = handler units c.args.caller.depth u in
     let f = frame_of c.args.frame.now in
     let k = c.in-At.k in
     subst (λ (act : Act (After running.Here)). Sends c.perform.result (λ y. Fine (after_of y c.perform.new.here)) (world_of c.args.state.now) (world_of c.perform.new.state) (g.O.Sink.written c.args.out.now) (g.O.Sink.written c.perform.new.out) (play h act)) (sym (turn_is u f c.args.here.now _ c.in-At.is))
-    (c.perform.ensures.turn units u of (statement u k) (c.in-Some.ensures.piece of.represents.find u of.unit))
+    (c.perform.ensures.turn (statement u k) (c.in-Some.ensures.piece of.represents.find u of.unit) units u of)
 
 pub take_turn-returns-in-Some-inner_piece-clause-turn : goal.take_turn-returns-in-Some-inner_piece-clause-turn
 take_turn-returns-in-Some-inner_piece-clause-turn g t c = λ units u of.
-    let h = handler units c.args.depth u in
+    let h = handler units c.args.caller.depth u in
     let f = frame_of c.args.frame.now in
     let k = c.in-Inside.k in
     subst (λ (act : Act (After running.Here)). Sends c.perform-turn.result (λ y. Fine (after_of y c.perform-turn.new.here)) (world_of c.args.state.now) (world_of c.perform-turn.new.state) (g.O.Sink.written c.args.out.now) (g.O.Sink.written c.perform-turn.new.out) (play h act)) (sym (turn_is u f c.args.here.now _ c.in-Inside.is))
-    (c.perform-turn.ensures.turn units u of (inner (statement u k)) (c.in-Some-inner_piece.ensures.piece of.represents.find u of.unit))
+    (c.perform-turn.ensures.turn (inner (statement u k)) (c.in-Some-inner_piece.ensures.piece of.represents.find u of.unit) units u of)
 
 pub take_turn-returns-in-Advance-clause-turn : goal.take_turn-returns-in-Advance-clause-turn
 take_turn-returns-in-Advance-clause-turn g t c = λ units u of.
-    let h = handler units c.args.depth u in
+    let h = handler units c.args.caller.depth u in
     let f = frame_of c.args.frame.now in
     let s = here_of c.args.here.now in
     let w = world_of c.args.state.now in
@@ -239,12 +239,12 @@ take_turn-returns-in-Advance-clause-turn g t c = λ units u of.
     let view : Turn → After running.Here = λ y. after_of y c.advance_at.new.here in
     let end = subst (λ (act : Act (After running.Here)). Ends c.advance_at.result view w1 (play h act w)) (sym (turn_is u f c.args.here.now _ c.in-Advance.is)) (c.advance_at.ensures.turn of.represents.find u of.unit h) in
     subst (λ (r : Result Turn Halt). Sends r (λ y. Fine (view y)) w w1 a a (play h (turn u f s))) (sym c.halting.ensures)
-    (sends_so w a (play h (turn u f s)) (acts_append h (handler_appends units c.args.depth u) (turn u f s)) w1 c.advance_at.result view end)
+    (sends_so w a (play h (turn u f s)) (acts_append h (handler_appends units c.args.caller.depth u) (turn u f s)) w1 c.advance_at.result view end)
 
 pub run_turns-returns-in-Err-clause-run : goal.run_turns-returns-in-Err-clause-run
 run_turns-returns-in-Err-clause-run g t c = λ units u of.
-    let h = handler units c.args.depth u in
-    let all = handler_appends units c.args.depth u in
+    let h = handler units c.args.caller.depth u in
+    let all = handler_appends units c.args.caller.depth u in
     let f = frame_of c.args.frame.now in
     let s = here_of c.turns.here in
     let w = world_of c.turns.state in
@@ -259,7 +259,7 @@ run_turns-returns-in-Err-clause-run g t c = λ units u of.
 pub run_turns-turns-init : goal.run_turns-turns-init
 run_turns-turns-init g t c = record {
   run = λ units u of.
-      let h = handler units c.args.depth u in
+      let h = handler units c.args.caller.depth u in
       let f = frame_of c.args.frame.now in
       let w = world_of c.args.state.now in
       let s = here_of c.in_ok-here.here in
@@ -271,8 +271,8 @@ run_turns-turns-init g t c = record {
 
 pub run_turns-returns-in-Ok-Result-clause-run : goal.run_turns-returns-in-Ok-Result-clause-run
 run_turns-returns-in-Ok-Result-clause-run g t c = λ units u of.
-    let h = handler units c.args.depth u in
-    let all = handler_appends units c.args.depth u in
+    let h = handler units c.args.caller.depth u in
+    let all = handler_appends units c.args.caller.depth u in
     let f = frame_of c.args.frame.now in
     let s = here_of c.turns.here in
     let n = c.turns.more in
@@ -295,8 +295,8 @@ run_turns-returns-in-Ok-Result-clause-run g t c = λ units u of.
 
 pub run_turns-returns-in-Err-send_after-clause-run : goal.run_turns-returns-in-Err-send_after-clause-run
 run_turns-returns-in-Err-send_after-clause-run g t c = λ units u of.
-    let h = handler units c.args.depth u in
-    let all = handler_appends units c.args.depth u in
+    let h = handler units c.args.caller.depth u in
+    let all = handler_appends units c.args.caller.depth u in
     let f = frame_of c.args.frame.now in
     let s = here_of c.turns.here in
     let n = c.turns.more in
@@ -318,8 +318,8 @@ run_turns-returns-in-Err-send_after-clause-run g t c = λ units u of.
 
 pub run_turns-returns-then-more-eq0-clause-run : goal.run_turns-returns-then-more-eq0-clause-run
 run_turns-returns-then-more-eq0-clause-run g t c = λ units u of.
-    let h = handler units c.args.depth u in
-    let all = handler_appends units c.args.depth u in
+    let h = handler units c.args.caller.depth u in
+    let all = handler_appends units c.args.caller.depth u in
     let f = frame_of c.args.frame.now in
     let s = here_of c.turns.here in
     let n = c.turns.more in
@@ -343,8 +343,8 @@ run_turns-returns-then-more-eq0-clause-run g t c = λ units u of.
 pub run_turns-turns-preserved : goal.run_turns-turns-preserved
 run_turns-turns-preserved g t c = record {
   run = λ units u of.
-      let h = handler units c.args.depth u in
-      let all = handler_appends units c.args.depth u in
+      let h = handler units c.args.caller.depth u in
+      let all = handler_appends units c.args.caller.depth u in
       let f = frame_of c.args.frame.now in
       let s = here_of c.turns.here in
       let n = c.turns.more in
@@ -372,8 +372,8 @@ run_turns-turns-preserved g t c = record {
 
 pub dimension_one-returns-in-Ok-clause-run : goal.dimension_one-returns-in-Ok-clause-run
 dimension_one-returns-in-Ok-clause-run g t c = λ units u of.
-    let h = handler units c.args.depth u in
-    let all = handler_appends units c.args.depth u in
+    let h = handler units c.args.caller.depth u in
+    let all = handler_appends units c.args.caller.depth u in
     let f = frame_of c.args.frame.now in
     let y = c.args.array.now in
     let w = world_of c.args.state.now in
@@ -395,8 +395,8 @@ dimension_one-returns-in-Ok-clause-run g t c = λ units u of.
 
 pub dimension_one-returns-in-Err-clause-run : goal.dimension_one-returns-in-Err-clause-run
 dimension_one-returns-in-Err-clause-run g t c = λ units u of.
-    let h = handler units c.args.depth u in
-    let all = handler_appends units c.args.depth u in
+    let h = handler units c.args.caller.depth u in
+    let all = handler_appends units c.args.caller.depth u in
     let f = frame_of c.args.frame.now in
     let y = c.args.array.now in
     let w = world_of c.args.state.now in
@@ -416,7 +416,7 @@ dimension_one-returns-in-Err-clause-run g t c = λ units u of.
 
 pub dimension-loop-array-init : goal.dimension-loop-array-init
 dimension-loop-array-init g t c = record {
-  run = λ units u of. sends_none (world_of c.args.state.now) (g.O.Sink.written c.args.out.now) tt (λ _. play (handler units c.args.depth u) (entry_by (frame_of c.args.frame.now) (map dummy_of c.as_slice-array-items.result.now))) (play (handler units c.args.depth u) (entry_by (frame_of c.args.frame.now) (map dummy_of c.as_slice-array-items.result.now))) (λ sent. refl);
+  run = λ units u of. sends_none (world_of c.args.state.now) (g.O.Sink.written c.args.out.now) tt (λ _. play (handler units c.args.caller.depth u) (entry_by (frame_of c.args.frame.now) (map dummy_of c.as_slice-array-items.result.now))) (play (handler units c.args.caller.depth u) (entry_by (frame_of c.args.frame.now) (map dummy_of c.as_slice-array-items.result.now))) (λ sent. refl);
   sent = search rules;
   later = omega arith;
 }
@@ -424,8 +424,8 @@ dimension-loop-array-init g t c = record {
 pub dimension-loop-array-preserved : goal.dimension-loop-array-preserved
 dimension-loop-array-preserved g t c = record {
   run = λ units u of.
-      let h = handler units c.args.depth u in
-      let all = handler_appends units c.args.depth u in
+      let h = handler units c.args.caller.depth u in
+      let all = handler_appends units c.args.caller.depth u in
       let f0 = frame_of c.args.frame.now in
       let f = frame_of c.loop-array.frame in
       let f1 = frame_of c.dimension_one.new.frame in
@@ -449,9 +449,9 @@ dimension-loop-array-preserved g t c = record {
 
 pub dimension-returns-in-Err-clause-run : goal.dimension-returns-in-Err-clause-run
 dimension-returns-in-Err-clause-run g t c = λ units u of.
-    let h = handler units c.args.depth u in
-    let all = handler_appends units c.args.depth u in
-    let r0 = c.args.procedure.now.routine in
+    let h = handler units c.args.caller.depth u in
+    let all = handler_appends units c.args.caller.depth u in
+    let r0 = c.args.caller.procedure.now.routine in
     let f0 = frame_of c.args.frame.now in
     let f = frame_of c.loop-array.frame in
     let f1 = frame_of c.dimension_one.new.frame in
@@ -478,8 +478,8 @@ dimension-returns-in-Err-clause-run g t c = λ units u of.
 
 pub dimension-returns-clause-run : goal.dimension-returns-clause-run
 dimension-returns-clause-run g t c = λ units u of.
-    let h = handler units c.args.depth u in
-    let r0 = c.args.procedure.now.routine in
+    let h = handler units c.args.caller.depth u in
+    let r0 = c.args.caller.procedure.now.routine in
     let f0 = frame_of c.args.frame.now in
     let f = frame_of c.loop-array.frame in
     let ys = c.as_slice-array-items.result.now in
@@ -496,8 +496,8 @@ dimension-returns-clause-run g t c = λ units u of.
 
 pub run_entered-returns-in-Ok-clause-run : goal.run_entered-returns-in-Ok-clause-run
 run_entered-returns-in-Ok-clause-run g t c = λ units u of.
-    let h = handler units c.args.depth u in
-    let all = handler_appends units c.args.depth u in
+    let h = handler units c.args.caller.depth u in
+    let all = handler_appends units c.args.caller.depth u in
     let f0 = frame_of c.args.frame.now in
     let f = frame_of c.dimension.new.frame in
     let w = world_of c.args.state.now in
@@ -513,8 +513,8 @@ run_entered-returns-in-Ok-clause-run g t c = λ units u of.
 
 pub run_entered-returns-in-Err-clause-run : goal.run_entered-returns-in-Err-clause-run
 run_entered-returns-in-Err-clause-run g t c = λ units u of.
-    let h = handler units c.args.depth u in
-    let all = handler_appends units c.args.depth u in
+    let h = handler units c.args.caller.depth u in
+    let all = handler_appends units c.args.caller.depth u in
     let f0 = frame_of c.args.frame.now in
     let f = frame_of c.dimension.new.frame in
     let w = world_of c.args.state.now in
@@ -528,7 +528,7 @@ run_entered-returns-in-Err-clause-run g t c = λ units u of.
 
 pub run-returns-clause-run : goal.run-returns-clause-run
 run-returns-clause-run g t c = λ units u of.
-    let h = handler units c.args.depth u in
+    let h = handler units c.args.caller.depth u in
     let ds = map interval_of c.args.actuals.now in
     let w = world_of c.args.state.now in
     let w1 = world_of c.clear.new.state in
@@ -540,35 +540,35 @@ run-returns-clause-run g t c = λ units u of.
 
 pub call_at-returns-in_err-actuals-clause-run : goal.call_at-returns-in_err-actuals-clause-run
 call_at-returns-in_err-actuals-clause-run g t c = λ units u of go.
-    let h = handler units c.args.depth u in
+    let h = handler units c.args.caller.depth u in
     let act = asking c.args.site (stack_of c.args.stack.now.items) go in
     let w = world_of c.args.state.now in
-    sends_wanting w (g.O.Sink.written c.args.out.now) (play h act) (acts_append h (handler_appends units c.args.depth u) act) c.from_residual.result _ w c.from_residual.ensures.1
+    sends_wanting w (g.O.Sink.written c.args.out.now) (play h act) (acts_append h (handler_appends units c.args.caller.depth u) act) c.from_residual.result _ w c.from_residual.ensures.1
 
 pub run-returns-in_err-frame-clause-run : goal.run-returns-in_err-frame-clause-run
 run-returns-in_err-frame-clause-run g t c = λ units u of.
-    let h = handler units c.args.depth u in
+    let h = handler units c.args.caller.depth u in
     let ds = map interval_of c.args.actuals.now in
-    sends_wanting (world_of c.args.state.now) (g.O.Sink.written c.args.out.now) (run_unit h u ds) (unit_appends h (handler_appends units c.args.depth u) u ds) c.from_residual.result (λ v. Fine (option_map stored v)) (world_of c.clear.new.state) c.from_residual.ensures.1
+    sends_wanting (world_of c.args.state.now) (g.O.Sink.written c.args.out.now) (run_unit h u ds) (unit_appends h (handler_appends units c.args.caller.depth u) u ds) c.from_residual.result (λ v. Fine (option_map stored v)) (world_of c.clear.new.state) c.from_residual.ensures.1
 
 pub run_turns-returns-in_err-here-clause-run : goal.run_turns-returns-in_err-here-clause-run
 run_turns-returns-in_err-here-clause-run g t c = λ units u of.
-    let h = handler units c.args.depth u in
+    let h = handler units c.args.caller.depth u in
     let f = frame_of c.args.frame.now in
     let w = world_of c.args.state.now in
-    sends_wanting w (g.O.Sink.written c.args.out.now) (run_from h (turn u f) (beginning u)) (run_appends h (handler_appends units c.args.depth u) (turn u f) (beginning u)) c.from_residual.result (λ v. Fine (option_map stored v)) w c.from_residual.ensures.1
+    sends_wanting w (g.O.Sink.written c.args.out.now) (run_from h (turn u f) (beginning u)) (run_appends h (handler_appends units c.args.caller.depth u) (turn u f) (beginning u)) c.from_residual.result (λ v. Fine (option_map stored v)) w c.from_residual.ensures.1
 
 pub take_step-returns-in_default : goal.take_step-returns-in_default
 take_step-returns-in_default g t c = record {
   run = λ units u of.
-      let h = handler units c.args.depth u in
+      let h = handler units c.args.caller.depth u in
       let act = step (frame_of c.args.frame.now) c.args.one.now (stack_of c.args.stack.now.items) in
       let w = world_of c.args.state.now in
       let w1 = world_of c.step.new.state in
       let a = g.O.Sink.written c.args.out.now in
       let after = stack_of c.step.new.stack.items in
       subst (λ (r : Result (Unit {0}) Halt). Sends r (λ _. Fine after) w w1 a a (play h act)) (sym c.halting.ensures)
-      (sends_so w a (play h act) (acts_append h (handler_appends units c.args.depth u) act) w1 c.step.result (λ _. after) (c.step.ensures.moves h));
+      (sends_so w a (play h act) (acts_append h (handler_appends units c.args.caller.depth u) act) w1 c.step.result (λ _. after) (c.step.ensures.moves h));
   sent = search rules;
   cause = search rules;
 }
