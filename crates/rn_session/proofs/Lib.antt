@@ -4,3 +4,5 @@ pub mod Parts
 pub mod Replied
 pub mod Told
 pub mod ThinTexts
+pub mod OneFault
+pub mod Exactly

@@ -16,8 +16,8 @@ use Rattle.f77_semantics.specs.Source.{Source}
 use Rattle.thin_code.specs.Sizes.{steps_each, words_each}
 use Rattle.thin_code.specs.Agreement.{IsOrderly, HasEnded, IsUndefined}
 use Rattle.rn_session.specs.declared.status.Status.{Status}
-use Rattle.rn_session.specs.declared.status.Status.TheVariants.{Ok as Done, WriteFault, StepsSpent}
-use Rattle.rn_session.specs.Replies.{status_at, line_at, behind, run_reply, MayEnd}
+use Rattle.rn_session.specs.declared.status.Status.TheVariants.{Ok as Done, StepsSpent}
+use Rattle.rn_session.specs.Replies.{status_at, line_at, behind, run_reply, AppendsLine, MayEnd, own, in_line, in_output}
 use Rattle.rn_session.specs.Sources.{IsDefined, Finishes, SaysOfSource}
 use Rattle.rn_session.specs.Answers.{StartsOn}
 
@@ -109,23 +109,25 @@ module _ (bytes : List ℕ) (s : State) (started : StartsOn bytes s) (steps : �
           absurd (not_halted (run steps s).outcome status (ap (λ x. x.outcome) same.stands ∙ k.halts) running)
 
   -- what each status tells
-  pub told : (status : Status) (old new : Option (List ℕ)) → MayEnd (run_reply steps s) status
+  pub told : (status : Status) (old new : Option (List ℕ)) → MayEnd (run_reply steps s) old new status
       → (status ≡ Done → Appends old new ((run_reply steps s).output ++ (run_reply steps s).line))
-      → (status ≢ WriteFault → (more : List ℕ) × Appends old new ((run_reply steps s).output ++ more))
       → SaysOfSource status steps bytes old new
-  told status old new (inr e) done sent = subst (λ x. SaysOfSource x steps bytes old new) (sym e.0) tt
-  told status old new (inl e) done sent = go (run steps s).outcome refl e
+  told status old new (in_line e d w) done = subst (λ x. SaysOfSource x steps bytes old new) (sym e) tt
+  told status old new (in_output e f w) done = subst (λ x. SaysOfSource x steps bytes old new) (sym e) tt
+  told status old new (own e w) done = go (run steps s).outcome refl e
     where
+      line_of : (o : Outcome) → (run steps s).outcome ≡ o → AppendsLine old new (output steps s) (behind (output steps s) (line_at (run steps s).outcome)) →
+          AppendsLine old new (output steps s) (behind (output steps s) (line_at o))
+      line_of o r l = subst (λ o. AppendsLine old new (output steps s) (behind (output steps s) (line_at o))) r l
+
       go : (o : Outcome) → (run steps s).outcome ≡ o → status ≡ status_at (run steps s).outcome → SaysOfSource status steps bytes old new
       go Running r e =
           let spent : status ≡ StepsSpent = e ∙ ap status_at r in
-          let w = sent (λ f. let z : StepsSpent ≡ WriteFault = sym spent ∙ f in cc) in
           subst (λ x. SaysOfSource x steps bytes old new) (sym spent) (record {
             body = body;
             text = started.made.text;
             out = output steps s;
-            more = w.0;
-            wrote = w.1;
+            wrote = line_of Running r w;
             begins = begins r;
             few = few r;
             late = late r;
@@ -145,6 +147,8 @@ module _ (bytes : List ℕ) (s : State) (started : StartsOn bytes s) (steps : �
           subst (λ x. SaysOfSource x steps bytes old new) (sym (e ∙ ap status_at r)) (record {
             body = body;
             text = started.made.text;
+            out = output steps s;
+            wrote = line_of (Trap pc cause) r w;
             steps = reach;
             undefined = started.made.agrees.trapped [] s started.loads steps pc cause r;
           })

@@ -57,18 +57,18 @@ pub data MayReply (limit steps : ℕ) (left : Option (List ℕ)) (reply : Reply)
       (fault : SourceFault) → IsTextFault fault bytes → reply ≡ fault_reply fault → MayReply limit steps left reply
   ran : (bytes : List ℕ) → IfSome left (λ known. bytes ≡ known) → length bytes ≤ limit → IsRunOf steps bytes reply → MayReply limit steps left reply
 
--- What `one STEPS` may answer to these words and this input, and the text of that answer.
-pub data MayAnswer (limit : ℕ) (words : List (List ℕ)) (left : Option (List ℕ)) (status : Status) (text : List ℕ) : Type 0 where
-  bad_words : IsNone (steps_of words) → status ≡ BadWords → text ≡ codes "bad words\n" → MayAnswer limit words left status text
-  read_fault : status ≡ ReadFault → text ≡ codes "read fault\n" → MayAnswer limit words left status text
-  out_of_memory : status ≡ OutOfMemory → text ≡ codes "out of memory\n" → MayAnswer limit words left status text
-  replied : (steps : ℕ) (reply : Reply) → steps_of words ≡ Some steps → MayReply limit steps left reply → MayEnd reply status →
-      text ≡ reply.output ++ reply.line → MayAnswer limit words left status text
+-- What `one STEPS` may answer to these words and this input, the text of that answer, and of a reply what is written where.
+pub data MayAnswer (limit : ℕ) (words : List (List ℕ)) (left old new : Option (List ℕ)) (status : Status) (text : List ℕ) : Type 0 where
+  bad_words : IsNone (steps_of words) → status ≡ BadWords → text ≡ codes "bad words\n" → MayAnswer limit words left old new status text
+  read_fault : status ≡ ReadFault → text ≡ codes "read fault\n" → MayAnswer limit words left old new status text
+  out_of_memory : status ≡ OutOfMemory → text ≡ codes "out of memory\n" → MayAnswer limit words left old new status text
+  replied : (steps : ℕ) (reply : Reply) → steps_of words ≡ Some steps → MayReply limit steps left reply → MayEnd reply old new status →
+      text ≡ reply.output ++ reply.line → MayAnswer limit words left old new status text
 
 -- The sink got the text of the answer, or a front of it where its count of faults rose.
 pub record Answered (limit : ℕ) (words : List (List ℕ)) (left : Option (List ℕ)) (status : Status) (old new : Option (List ℕ)) (rose : Type 0) : Type 0 where
   pub text : List ℕ
-  pub may : MayAnswer limit words left status text
+  pub may : MayAnswer limit words left old new status text
   pub front : AppendsPart old new text
   pub whole : ¬ rose → Appends old new text
 

@@ -5,3 +5,4 @@ pub mod Statuses
 pub mod Replies
 pub mod Sources
 pub mod Answers
+pub mod Exact

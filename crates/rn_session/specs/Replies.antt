@@ -1,5 +1,8 @@
 -- What a run replies.
-use Rattle.std.specs.Prelude.{◌≡◌, ◌≢◌, ℕ, Bool, false, List, [], ◌∷◌, ◌++◌, ◌⊎◌, if◌then◌else◌, codes, decimal}
+use Rattle.std.specs.Prelude.{◌≡◌, ◌≢◌, ℕ, Bool, false, List, [], ◌∷◌, ◌++◌, if◌then◌else◌, codes, decimal}
+use Rattle.std.specs.Io.KnownBytes.{Appends}
+use Rattle.std.specs.declared.option.Option.{Option}
+use Rattle.rn_ports.specs.Sent.{AppendsPart}
 use Rattle.f77_tree.specs.declared.fault.SourceFault.{SourceFault}
 use Rattle.rv_machine.specs.declared.outcome.Outcome.{Outcome}
 use Rattle.rv_machine.specs.declared.outcome.Outcome.TheVariants.{Running, Halted, Trap}
@@ -44,6 +47,16 @@ run_reply steps s = record {
 abbrev pub fault_reply : SourceFault → Reply
 fault_reply fault = record { output = []; status = Faulty fault; line = fault_line fault }
 
--- The reply is written and this is answered: its own status, or that the sink failed while there was output or where all went well.
-abbrev pub MayEnd : Reply → Status → Type 0
-MayEnd reply status = (status ≡ reply.status) ⊎ (status ≡ WriteFault) × ((reply.status ≡ Done) ⊎ (reply.output ≢ []))
+-- The known bytes grew by an output and behind it a front of a line.
+pub record AppendsLine (old new : Option (List ℕ)) (output line : List ℕ) : Type 0 where
+  pub front : List ℕ
+  pub rest : List ℕ
+  pub cut : line ≡ front ++ rest
+  pub grew : Appends old new (output ++ front)
+
+-- What is written of a reply, and what is answered: its own status where the whole output was written, also where the sink failed
+-- in the line; but where a run that ended wasn't told, and where the sink failed in the output, that.
+pub data MayEnd (reply : Reply) (old new : Option (List ℕ)) (status : Status) : Type 0 where
+  own : status ≡ reply.status → AppendsLine old new reply.output reply.line → MayEnd reply old new status
+  in_line : status ≡ WriteFault → reply.status ≡ Done → AppendsLine old new reply.output reply.line → MayEnd reply old new status
+  in_output : status ≡ WriteFault → reply.output ≢ [] → AppendsPart old new reply.output → MayEnd reply old new status

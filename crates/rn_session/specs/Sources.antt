@@ -8,9 +8,11 @@ use Rattle.f77_semantics.specs.Source.{Source}
 use Rattle.thin_form.specs.declared.statement.Statement.{Statement}
 use Rattle.thin_code.specs.Sizes.{steps_each, words_each}
 use Rattle.thin_code.specs.Agreement.{IsUndefined}
+use Rattle.rv_machine.specs.declared.outcome.TrapCause.{TrapCause}
 use Rattle.rn_session.specs.declared.status.Status.{Status}
 use Rattle.rn_session.specs.declared.status.Status.TheVariants.{Ok as Done, StepsSpent, Trapped}
-use Rattle.rn_session.specs.Replies.{behind}
+use Rattle.rn_session.specs.Statuses.{trap_text}
+use Rattle.rn_session.specs.Replies.{behind, AppendsLine}
 use Rattle.thin_text.specs.Thin.{text_bytes}
 use Rattle.rn_session.specs.Texts.{IsThinText}
 
@@ -33,23 +35,24 @@ pub record RanToTheEnd (bytes : List ℕ) (old new : Option (List ℕ)) : Type 0
   pub whole : IsDefined text.trees → Finishes text.trees status out
   pub zero : IsDefined text.trees → status ≡ 0
 
--- The sink got an output, and what follows it as far as it took that. Where the program is defined the output is a beginning of
+-- The sink got an output, and behind it the line of spent steps as far as it took that. Where the program is defined the output is a beginning of
 -- what it prints in (STEPS + 1) * L steps. STEPS is below the number of instructions by which every program of this length has ended,
 -- and below n * W + 2 where this one ends at step n.
 pub record RanOutOfSteps (steps : ℕ) (bytes : List ℕ) (old new : Option (List ℕ)) : Type 0 where
   pub body : List Statement
   pub text : IsThinText bytes body
   pub out : List ℕ
-  pub more : List ℕ
-  pub wrote : Appends old new (out ++ more)
+  pub wrote : AppendsLine old new out (behind out (codes "steps spent\n"))
   pub begins : IsDefined text.trees → Begins out (text_of (Source text.trees [] ((steps + 1) * steps_each body)))
   pub few : steps < 64 + 32 * text_bytes text.units
   pub late : (n status : ℕ) (ended : List ℕ) → Source text.trees [] n ≡ Finished status ended → steps < n * words_each body + 2
 
--- The program meets an undefined action.
-pub record RanIntoATrap (bytes : List ℕ) : Type 0 where
+-- The sink got an output, and behind it the line of the trap as far as it took that. The program meets an undefined action.
+pub record RanIntoATrap (pc : ℕ) (cause : TrapCause) (bytes : List ℕ) (old new : Option (List ℕ)) : Type 0 where
   pub body : List Statement
   pub text : IsThinText bytes body
+  pub out : List ℕ
+  pub wrote : AppendsLine old new out (behind out (codes "trapped " ++ trap_text pc cause ++ codes "\n"))
   pub steps : ℕ
   pub undefined : IsUndefined (Source text.trees [] steps)
 
@@ -57,5 +60,5 @@ pub record RanIntoATrap (bytes : List ℕ) : Type 0 where
 abbrev pub SaysOfSource : Status → (steps : ℕ) → (bytes : List ℕ) → (old new : Option (List ℕ)) → Type 0
 SaysOfSource Done steps bytes old new = RanToTheEnd bytes old new
 SaysOfSource StepsSpent steps bytes old new = RanOutOfSteps steps bytes old new
-SaysOfSource (Trapped pc cause) steps bytes old new = RanIntoATrap bytes
+SaysOfSource (Trapped pc cause) steps bytes old new = RanIntoATrap pc cause bytes old new
 SaysOfSource status steps bytes old new = Unit {0}

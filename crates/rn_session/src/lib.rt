@@ -2,6 +2,7 @@
 #![tactic(auto)]
 
 mod fault;
+mod laws;
 mod lines;
 mod making;
 mod running;
@@ -9,6 +10,7 @@ mod status;
 mod top;
 mod words;
 
+pub use laws::answers_law;
 pub use making::thin_file;
 pub use status::Status;
 pub use top::{LIMIT, rn_top};

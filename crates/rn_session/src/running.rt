@@ -1,5 +1,5 @@
 //! The run of a machine, and the line that says how it stands.
-ghost use Rattle.std.specs.Prelude.{◌≡◌, ◌≢◌, ℕ, ◌<◌, ◌++◌, ◌⊎◌, List};
+ghost use Rattle.std.specs.Prelude.{◌≡◌, ◌<◌, ◌++◌, ◌⊎◌};
 ghost use Rattle.std.specs.Io.KnownBytes.{Appends};
 ghost use Rattle.rn_ports.specs.Causes.{Rose, HasCause};
 ghost use Rattle.rn_ports.specs.Sent.{AppendsPart};
@@ -82,12 +82,12 @@ fn tell<O: Sink>(out: &mut O, outcome: Outcome, within: bool) -> Status
 
 /// Runs a machine for so many steps, and writes its output and how it stands.
 pub fn run_machine<O: Sink>(machine: &mut Machine, steps: u64, out: &mut O) -> Status
-    ensures status { MayEnd (run_reply steps (state_of machine.old)) result }
+    // Where the output itself failed that is told and nothing else; where only the line failed, steps spent and traps stay.
+    ensures status { MayEnd (run_reply steps (state_of machine.old)) (O.written out.old) (O.written out.new) result }
     ensures write { HasCause (O.faults out.old) (O.faults out.new) (result ≡ Status.WriteFault) }
     ensures text { ¬ (Rose (O.faults out.old) (O.faults out.new)) → Appends (O.written out.old) (O.written out.new) ((run_reply steps (state_of machine.old)).output ++ (run_reply steps (state_of machine.old)).line) }
     ensures front { AppendsPart (O.written out.old) (O.written out.new) ((run_reply steps (state_of machine.old)).output ++ (run_reply steps (state_of machine.old)).line) }
     ensures done { result ≡ Status.Ok → Appends (O.written out.old) (O.written out.new) ((run_reply steps (state_of machine.old)).output ++ (run_reply steps (state_of machine.old)).line) }
-    ensures sent { result ≢ Status.WriteFault → (more : List ℕ) × Appends (O.written out.old) (O.written out.new) ((run_reply steps (state_of machine.old)).output ++ more) }
 {
     let mut within = false;
     match machine.run_by_line(steps, out, &mut within) {

@@ -1,13 +1,15 @@
 //! The top call.
-ghost use Rattle.std.specs.Prelude.{◌≡◌, ℕ, ◌↔◌, IsNone, IfSome};
+ghost use Rattle.std.specs.Prelude.{◌≡◌, ◌≢◌, ℕ, ◌↔◌, IsNone, IfSome};
 ghost use Rattle.std.specs.Option.{option_zip};
 ghost use Rattle.std.specs.Io.KnownBytes.{Appends, IsAtEnd};
 ghost use Rattle.rn_ports.specs.Causes.{Rose};
 ghost use Rattle.rn_session.specs.Words.{steps_of};
 ghost use Rattle.rn_session.specs.Answers.{Answered, IsComplete, Noted, input_limit, long_fault};
+ghost use Rattle.rn_session.specs.Exact.{IsExact};
 ghost use Rattle.rn_session.specs.Sources.{SaysOfSource};
 
 use super::fault::refuse_source;
+use super::laws::answers_law;
 use super::lines::refuse;
 use super::making::machine_of;
 use super::running::run_machine;
@@ -43,6 +45,9 @@ pub fn rn_top<I: Source, O: Sink, K: Keeper, G: Gate + Sync, T: Tally>(
     ensures answer { Answered input_limit words.now (I.left input.old) result (O.written out.old) (O.written out.new) (Rose (O.faults out.old) (O.faults out.new)) }
     ensures complete { ¬ (Rose (I.faults input.old) (I.faults input.new)) → ¬ (Rose (O.faults out.old) (O.faults out.new)) →
         IfSome (steps_of words.now) (λ steps. IsComplete input_limit steps (I.left input.old) result) }
+    // An answer that is no fault of a port and no want of memory comes exactly where it fits the input.
+    ensures exactly { result ≢ Status.ReadFault → result ≢ Status.WriteFault → result ≢ Status.OutOfMemory →
+        IfSome (option_zip (steps_of words.now) (I.left input.old)) (λ asked. IsExact input_limit asked.0 asked.1 result) }
 
     // What the status says of the source, by its meaning.
     ensures source { IfSome (option_zip (steps_of words.now) (I.left input.old)) (λ asked.
@@ -52,6 +57,7 @@ pub fn rn_top<I: Source, O: Sink, K: Keeper, G: Gate + Sync, T: Tally>(
     ensures noted { Noted result (T.notes tally.old) (T.notes tally.new) }
     ensures kept { keep.new ≡ keep.old }
 {
+    answers_law();
     let Some(steps) = steps(words) else {
         return refuse(out, Status::BadWords, b"bad words\n");
     };
