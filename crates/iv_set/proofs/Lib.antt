@@ -1,2 +1,4 @@
 pub mod Walking
 pub mod Runs
+pub mod AtEnd
+pub mod Leasts

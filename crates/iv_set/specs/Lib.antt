@@ -3,3 +3,4 @@ pub mod ToggleLaws
 pub mod Places
 pub mod Sets
 pub mod Walks
+pub mod Least

@@ -10,12 +10,12 @@ use Rattle.std.proofs.lemmas.Bool.{and_parts, and_from}
 use Rattle.std.proofs.lemmas.Map.Lookups.{CmpEqualImpliesEq}
 use Rattle.iv_set.specs.Toggles.{emit, by_order, after, begins_above, rises, walk}
 
-gt_is : (r : Ordering) → is_gt r ≡ true → r ≡ Greater
+pub gt_is : (r : Ordering) → is_gt r ≡ true → r ≡ Greater
 gt_is Less e = absurd (cc)
 gt_is Equal e = absurd (cc)
 gt_is Greater e = refl
 
-lt_is : (r : Ordering) → is_lt r ≡ true → r ≡ Less
+pub lt_is : (r : Ordering) → is_lt r ≡ true → r ≡ Less
 lt_is Less e = refl
 lt_is Equal e = absurd (cc)
 lt_is Greater e = absurd (cc)
@@ -25,7 +25,7 @@ picked Q Less f g h = f refl
 picked Q Equal f g h = g refl
 picked Q Greater f g h = h refl
 
-tested : (b : Bool) {G : Type 0} → (b ≡ true → G) → (b ≡ false → G) → G
+pub tested : (b : Bool) {G : Type 0} → (b ≡ true → G) → (b ≡ false → G) → G
 tested true f g = f refl
 tested false f g = g refl
 
@@ -34,21 +34,21 @@ not_itself true e = absurd (cc)
 not_itself false e = absurd (cc)
 
 module _ {P : Type 0} {cmp : P → P → Ordering} (o : IsTotalOrder cmp) where
-  less_turned : (x y : P) → cmp x y ≡ Less → cmp y x ≡ Greater
+  pub less_turned : (x y : P) → cmp x y ≡ Less → cmp y x ≡ Greater
   less_turned x y e = o.antisymm y x ∙ ap ordering_reverse e
 
-  greater_turned : (x y : P) → cmp x y ≡ Greater → cmp y x ≡ Less
+  pub greater_turned : (x y : P) → cmp x y ≡ Greater → cmp y x ≡ Less
   greater_turned x y e = o.antisymm y x ∙ ap ordering_reverse e
 
   -- what is above q is above all that q is above
   lower : (q p x : P) → cmp q p ≡ Less → is_gt (cmp q x) ≡ true → is_gt (cmp p x) ≡ true
   lower q p x e g = ap is_gt (less_turned x p (o.trans x q p (greater_turned q x (gt_is (cmp q x) g)) e))
 
-  outside : (s : Bool) (ps : List P) (q x : P) → begins_above cmp q ps ≡ true → is_gt (cmp q x) ≡ true → after cmp s ps x ≡ s
+  pub outside : (s : Bool) (ps : List P) (q x : P) → begins_above cmp q ps ≡ true → is_gt (cmp q x) ≡ true → after cmp s ps x ≡ s
   outside s [] q x b g = refl
   outside s (p ∷ ps) q x b g = ap (λ r. cond r s (after cmp (not s) ps x)) (lower q p x (lt_is (cmp q p) b) g)
 
-  at_start : (s : Bool) (ps : List P) (q : P) → begins_above cmp q ps ≡ true → after cmp s ps q ≡ s
+  pub at_start : (s : Bool) (ps : List P) (q : P) → begins_above cmp q ps ≡ true → after cmp s ps q ≡ s
   at_start s [] q b = refl
   at_start s (p ∷ ps) q b = ap (λ r. cond r s (after cmp (not s) ps q)) (ap is_gt (less_turned q p (lt_is (cmp q p) b)))
 
@@ -159,7 +159,7 @@ module _ {P : Type 0} {cmp : P → P → Ordering} (o : IsTotalOrder cmp) where
 
   -- ---- equal sets
 
-  begun : (s : Bool) (p : P) (ps : List P) → begins_above cmp p ps ≡ true → after cmp s (p ∷ ps) p ≡ not s
+  pub begun : (s : Bool) (p : P) (ps : List P) → begins_above cmp p ps ≡ true → after cmp s (p ∷ ps) p ≡ not s
   begun s p ps b = ap (λ r. cond (is_gt r) s (after cmp (not s) ps p)) (tied_itself o p) ∙ at_start (not s) ps p b
 
   pub same_lists : CmpEqualImpliesEq cmp → (s : Bool) (ps qs : List P) → rises cmp ps ≡ true → rises cmp qs ≡ true → ((x : P) → after cmp s ps x ≡ after cmp s qs x) → ps ≡ qs

@@ -1,5 +1,5 @@
 -- A set of points of an ordered type as the rising list of the points at which it begins or ends.
-use Rattle.std.specs.Prelude.{Bool, true, false, not, ◌&&◌, List, [], ◌∷◌}
+use Rattle.std.specs.Prelude.{Bool, true, false, not, ◌&&◌, List, [], ◌∷◌, Option, Some, None}
 use Rattle.std.specs.declared.cmp.Ordering.{Ordering}
 use Rattle.std.specs.declared.cmp.Ordering.TheVariants.{Less, Equal, Greater}
 use Rattle.std.specs.Ordering.{is_lt, is_gt}
@@ -28,6 +28,16 @@ both false t = false
 abbrev pub first_alone : Bool → Bool → Bool
 first_alone true t = not t
 first_alone false t = false
+
+-- what a test says of the last point, and d where there is none
+abbrev pub ends_by : {P : Type 0} → (P → Bool) → Bool → List P → Bool
+ends_by test d [] = d
+ends_by test d (p ∷ ps) = ends_by test (test p) ps
+
+-- the first point
+abbrev pub head : {P : Type 0} → List P → Option P
+head [] = None
+head (p ∷ ps) = Some p
 
 abbrev pub by_order : {L : Type 0} → Ordering → L → L → L → L
 by_order Less a b c = a

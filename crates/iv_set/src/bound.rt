@@ -1,6 +1,8 @@
 //! The points at which runs of items begin and end.
-ghost use Rattle.std.specs.Prelude.{◌≡◌, IsTrue, IfOk};
+ghost use Rattle.std.specs.Prelude.{◌≡◌, ◌<◌, ◌++◌, IsTrue, IfOk, IfErr, vec_len};
+ghost use Rattle.std.specs.Ordering.{is_eq, is_lt, is_gt};
 ghost use Rattle.iv_set.specs.Places.{area_cmp, cmp, place_of, next_place, is_item, run};
+ghost use Rattle.iv_set.specs.Walks.{touches, ends_before, stretched};
 
 use f77_tree::{Item, Name};
 use std::alloc::{AllocError, Global};
@@ -87,8 +89,8 @@ impl Bound {
     }
 }
 
-// The place of the item.
-fn place(alloc: Global, item: &Item) -> Result<Bound, AllocError>
+/// The place of the item.
+pub fn place(alloc: Global, item: &Item) -> Result<Bound, AllocError>
     ensures { IfOk result (λ bound. bound ≡ place_of item.now) }
 {
     Ok(Bound {
@@ -97,8 +99,8 @@ fn place(alloc: Global, item: &Item) -> Result<Bound, AllocError>
     })
 }
 
-// The place behind the item.
-fn next(alloc: Global, item: &Item) -> Result<Bound, AllocError>
+/// The place behind the item.
+pub fn next(alloc: Global, item: &Item) -> Result<Bound, AllocError>
     ensures place { IfOk result (λ bound. bound ≡ next_place item.now) }
     ensures fits { IfOk result (λ _. IsTrue (is_item (place_of item.now))) }
 {
@@ -118,6 +120,30 @@ pub fn ends(alloc: Global, from: &Item, to: &Item) -> Result<Vec<Bound>, AllocEr
     bounds.push(first)?;
     bounds.push(next(alloc, to)?)?;
     Ok(bounds)
+}
+
+/// The same bounds again.
+pub fn copies(alloc: Global, bounds: &[Bound]) -> Result<Vec<Bound>, AllocError>
+    ensures { IfOk result (λ all. all.items ≡ bounds.now) }
+{
+    let mut all = Vec::with_capacity(alloc, bounds.len())?;
+    for bound in bounds {
+        all.push(bound.copy(alloc)?)?;
+    }
+    Ok(all)
+}
+
+/// The item at a place that has one.
+pub fn item_at(alloc: Global, bound: &Bound) -> Result<Item, AllocError>
+    requires { IsTrue (is_item bound.now) }
+    ensures { IfOk result (λ item. place_of item ≡ bound.now) }
+{
+    let offset = bound.offset as u32;
+    match &bound.area {
+        Area::Dummies => Ok(Item::Dummy(offset)),
+        Area::Local => Ok(Item::Local(offset)),
+        Area::Block(block) => Ok(Item::Common(block.copy(alloc)?, offset)),
+    }
 }
 
 fn area_to_item(area: &Area, item: &Item) -> Ordering
@@ -142,4 +168,81 @@ pub fn compare_to_item(bound: &Bound, item: &Item) -> Ordering
         Ordering::Equal => bound.offset.cmp(&(offset_of(item) as u64)),
         apart => apart,
     }
+}
+
+fn is_at(bound: &Bound, item: &Item) -> bool
+    ensures { result ≡ is_eq (cmp bound.now (place_of item.now)) }
+{
+    match compare_to_item(bound, item) {
+        Ordering::Equal => true,
+        _ => false,
+    }
+}
+
+fn is_below(bound: &Bound, item: &Item) -> bool
+    ensures { result ≡ is_lt (cmp bound.now (place_of item.now)) }
+{
+    match compare_to_item(bound, item) {
+        Ordering::Less => true,
+        _ => false,
+    }
+}
+
+/// Whether the bound stands behind the place of the item.
+pub fn is_above(bound: &Bound, item: &Item) -> bool
+    ensures { result ≡ is_gt (cmp bound.now (place_of item.now)) }
+{
+    match compare_to_item(bound, item) {
+        Ordering::Greater => true,
+        _ => false,
+    }
+}
+
+/// Whether the last bound is the place of the item.
+pub fn touches(bounds: &[Bound], item: &Item) -> bool
+    ensures { result ≡ touches bounds.now item.now }
+{
+    match bounds.split_last() {
+        None => false,
+        Some((last, _)) => is_at(last, item),
+    }
+}
+
+/// Whether all bounds stand before the place of the item, by the last of them.
+pub fn ends_before(bounds: &[Bound], item: &Item) -> bool
+    ensures { result ≡ ends_before bounds.now item.now }
+{
+    match bounds.split_last() {
+        None => true,
+        Some((last, _)) => is_below(last, item),
+    }
+}
+
+/// Puts the place behind the item at that of the last bound.
+pub fn stretch(alloc: Global, bounds: &mut Vec<Bound>, to: &Item) -> Result<(), AllocError>
+    requires { 0 < vec_len bounds.old }
+    ensures stretched { IfOk result (λ _. bounds.new.items ≡ stretched bounds.old.items (next_place to.now)) }
+    ensures fits { IfOk result (λ _. IsTrue (is_item (place_of to.now))) }
+    ensures kept { IfErr result (λ _. bounds.new.items ≡ bounds.old.items) }
+{
+    let end = next(alloc, to)?;
+    drop(bounds.pop());
+    bounds.push_reserved(end);
+    Ok(())
+}
+
+/// Adds the ends of a run behind the last bound.
+pub fn append(
+    alloc: Global,
+    bounds: &mut Vec<Bound>,
+    from: &Item,
+    to: &Item,
+) -> Result<(), AllocError>
+    ensures appended { IfOk result (λ _. bounds.new.items ≡ bounds.old.items ++ run from.now to.now) }
+    ensures fits { IfOk result (λ _. IsTrue (is_item (place_of to.now))) }
+    ensures kept { IfErr result (λ _. bounds.new.items ≡ bounds.old.items) }
+{
+    let mut added = ends(alloc, from, to)?;
+    bounds.append(&mut added)?;
+    Ok(())
 }

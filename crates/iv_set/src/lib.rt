@@ -8,6 +8,9 @@
 //! Since they rise, no two runs touch, and an array of any size is one run. Each operation on two sets goes through
 //! both lists once.
 //!
+//! `add` of a run that begins at the end of the set or behind it takes no walk, so runs that are added in their order
+//! take a time that grows with their number alone.
+//!
 //! Ranges are a `Lattice` of `rn_lattice`: the empty set is the bottom, and a join is the union.
 #![tactic(auto)]
 
@@ -15,6 +18,7 @@ mod bound;
 mod ranges;
 mod walk;
 
+pub use bound::{Area, Bound, compare, compare_to_item, item_at, next, place};
 pub use ranges::Ranges;
 
 #[cfg(test)]

@@ -1,17 +1,17 @@
 //! Sets of items.
-ghost use Rattle.std.specs.Prelude.{◌≡◌, [], IsTrue, IsFalse, IfOk, IfErr, false};
-ghost use Rattle.std.specs.Ordering.{is_gt};
+ghost use Rattle.std.specs.Prelude.{◌≡◌, [], IsTrue, IsFalse, IfOk, IfErr, MatchOption, false};
 ghost use Rattle.rn_lattice.specs.Order.{IsJoin};
-ghost use Rattle.iv_set.specs.Toggles.{either, both};
-ghost use Rattle.iv_set.specs.Places.{cmp, place_of, IsRun, between, run};
+ghost use Rattle.iv_set.specs.Toggles.{either, both, first_alone};
+ghost use Rattle.iv_set.specs.Places.{place_of, is_item, IsRun, between, run};
 ghost use Rattle.iv_set.specs.Sets.{has_item, leq, made, IsSet};
+ghost use Rattle.iv_set.specs.Walks.{touches, ends_before};
+ghost use Rattle.iv_set.specs.Least.{IsLeast};
 
-use crate::bound::{Bound, compare_to_item, ends};
-use crate::walk::{Rule, any, combined};
+use crate::bound::{Bound, append, copies, ends, ends_before, is_above, item_at, stretch, touches};
+use crate::walk::{Rule, any, combined, first_of};
 use f77_tree::Item;
 use rn_lattice::Lattice;
 use std::alloc::{AllocError, Global};
-use std::cmp::Ordering;
 use std::marker::Model;
 
 /// A finite set of items, kept as the rising bounds at which its runs begin and end.
@@ -32,15 +32,6 @@ impl Model for Ranges {
     ghost invariant = { λ r. IsSet r.bounds.items };
 }
 
-fn is_above(bound: &Bound, item: &Item) -> bool
-    ensures { result ≡ is_gt (cmp bound.now (place_of item.now)) }
-{
-    match compare_to_item(bound, item) {
-        Ordering::Greater => true,
-        _ => false,
-    }
-}
-
 fn has_in(bounds: &[Bound], item: &Item) -> bool
     ensures { result ≡ has_item bounds.now item.now }
 {
@@ -56,13 +47,30 @@ fn has_in(bounds: &[Bound], item: &Item) -> bool
 
 impl Ranges {
     /// The set without members.
-    pub fn empty(alloc: Global) -> Ranges
-        ensures empty { result ≡ [] }
-        ensures none { (i : Item) → has_item result i ≡ false }
+    pub fn empty(alloc: Global) -> Result<Ranges, AllocError>
+        ensures empty { IfOk result (λ set. set ≡ []) }
+        ensures none { IfOk result (λ set. (i : Item) → has_item set i ≡ false) }
     {
-        Ranges {
+        Ok(Ranges {
             bounds: Vec::new(alloc),
-        }
+        })
+    }
+
+    /// The same set again.
+    pub fn copy(&self, alloc: Global) -> Result<Ranges, AllocError>
+        ensures { IfOk result (λ again. again ≡ self.now) }
+    {
+        Ok(Ranges {
+            bounds: copies(alloc, &self.bounds)?,
+        })
+    }
+
+    /// The rising places at which membership turns: where each run begins, and the place behind its last item.
+    pub fn bounds(&self) -> &[Bound]
+        ensures bounds { result.now ≡ self.now }
+        ensures set { IsSet self.now }
+    {
+        &self.bounds
     }
 
     /// Whether the item is a member.
@@ -92,6 +100,16 @@ impl Ranges {
         any(Rule::Both, &self.bounds, &other.bounds)
     }
 
+    /// The least member that the other set lacks; none where each is one of the other set.
+    pub fn least_beyond(&self, alloc: Global, other: &Ranges) -> Result<Option<Item>, AllocError>
+        ensures least { IfOk result (λ found. MatchOption found (IsTrue (leq self.now other.now)) (IsLeast (λ i. first_alone (has_item self.now i) (has_item other.now i)))) }
+    {
+        match first_of(Rule::FirstAlone, &self.bounds, &other.bounds) {
+            Some(bound) => Ok(Some(item_at(alloc, bound)?)),
+            None => Ok(None),
+        }
+    }
+
     /// The members of both sets.
     pub fn cut(&self, alloc: Global, other: &Ranges) -> Result<Ranges, AllocError>
         ensures { IfOk result (λ all. (i : Item) → has_item all i ≡ both (has_item self.now i) (has_item other.now i)) }
@@ -117,10 +135,64 @@ impl Ranges {
         requires { IsRun from.now to.now }
         ensures run { IfOk result (λ all. all ≡ run from.now to.now) }
         ensures set { IfOk result IsSet }
+        ensures fits { IfOk result (λ _. IsTrue (is_item (place_of to.now))) }
     {
         Ok(Ranges {
             bounds: ends(alloc, from, to)?,
         })
+    }
+
+    // Adds a run that begins where the last one ends.
+    fn add_touching(&mut self, alloc: Global, from: &Item, to: &Item) -> Result<(), AllocError>
+        requires touches { IsTrue (touches self.old from.now) }
+        requires run { IsRun from.now to.now }
+        ensures union { IfOk result (λ _. self.new ≡ made either self.old (run from.now to.now)) }
+        ensures fits { IfOk result (λ _. IsTrue (is_item (place_of to.now))) }
+        ensures kept { IfErr result (λ _. self.new ≡ self.old) }
+    {
+        stretch(alloc, &mut self.bounds, to)?;
+        Ok(())
+    }
+
+    // Adds a run that begins behind the last one.
+    fn add_behind(&mut self, alloc: Global, from: &Item, to: &Item) -> Result<(), AllocError>
+        requires behind { IsTrue (ends_before self.old from.now) }
+        requires run { IsRun from.now to.now }
+        ensures union { IfOk result (λ _. self.new ≡ made either self.old (run from.now to.now)) }
+        ensures fits { IfOk result (λ _. IsTrue (is_item (place_of to.now))) }
+        ensures kept { IfErr result (λ _. self.new ≡ self.old) }
+    {
+        append(alloc, &mut self.bounds, from, to)?;
+        Ok(())
+    }
+
+    // Adds a run anywhere.
+    fn unite(&mut self, alloc: Global, from: &Item, to: &Item) -> Result<(), AllocError>
+        requires { IsRun from.now to.now }
+        ensures union { IfOk result (λ _. self.new ≡ made either self.old (run from.now to.now)) }
+        ensures fits { IfOk result (λ _. IsTrue (is_item (place_of to.now))) }
+        ensures kept { IfErr result (λ _. self.new ≡ self.old) }
+    {
+        let added = Ranges::run(alloc, from, to)?;
+        *self = self.union(alloc, &added)?;
+        Ok(())
+    }
+
+    // Adds a run, at the end without a walk.
+    fn add_run(&mut self, alloc: Global, from: &Item, to: &Item) -> Result<(), AllocError>
+        requires { IsRun from.now to.now }
+        ensures set { IsSet self.old }
+        ensures union { IfOk result (λ _. self.new ≡ made either self.old (run from.now to.now)) }
+        ensures fits { IfOk result (λ _. IsTrue (is_item (place_of to.now))) }
+        ensures kept { IfErr result (λ _. self.new ≡ self.old) }
+    {
+        if touches(&self.bounds, from) {
+            return self.add_touching(alloc, from, to);
+        }
+        if ends_before(&self.bounds, from) {
+            return self.add_behind(alloc, from, to);
+        }
+        self.unite(alloc, from, to)
     }
 
     /// Adds each item from one end to the other. Where there was no memory, the set is as it was.
@@ -129,8 +201,7 @@ impl Ranges {
         ensures added { IfOk result (λ _. (i : Item) → has_item self.new i ≡ either (has_item self.old i) (between from.now to.now i)) }
         ensures kept { IfErr result (λ _. self.new ≡ self.old) }
     {
-        let added = Ranges::run(alloc, from, to)?;
-        *self = self.union(alloc, &added)?;
+        self.add_run(alloc, from, to)?;
         Ok(())
     }
 }
@@ -146,7 +217,7 @@ impl Lattice for Ranges {
     ghost bottom = { [] };
 
     fn bottom(alloc: Global) -> Result<Self, AllocError> {
-        Ok(Ranges::empty(alloc))
+        Ranges::empty(alloc)
     }
 
     fn leq(&self, other: &Self) -> bool {

@@ -1,6 +1,7 @@
 //! Two lists of bounds gone through at once.
 ghost use Rattle.std.specs.Prelude.{◌≡◌, Bool, false, not, [], ◌++◌, IfOk, MatchOption};
-ghost use Rattle.iv_set.specs.Toggles.{emit, is_empty};
+ghost use Rattle.std.specs.Option.{option_copied};
+ghost use Rattle.iv_set.specs.Toggles.{emit, is_empty, head};
 ghost use Rattle.iv_set.specs.Sets.{made};
 ghost use Rattle.iv_set.specs.Walks.{holds, rest_of, Comes};
 
@@ -110,18 +111,25 @@ fn start<'a>(first: &'a [Bound], second: &'a [Bound]) -> Walk<'a>
     }
 }
 
+/// The first place that is a member by the rule.
+pub fn first_of<'a>(rule: Rule, first: &'a [Bound], second: &'a [Bound]) -> Option<&'a Bound>
+    ensures { option_copied result ≡ head (made (holds rule) first.now second.now) }
+{
+    let mut at = start(first, second);
+    'place: while let Some((bound, next)) = step(at) {
+        if rule.holds(next.in_first, next.in_second) {
+            return Some(bound);
+        }
+        at = next;
+    }
+    None
+}
+
 /// Whether any place is a member by the rule.
 pub fn any(rule: Rule, first: &[Bound], second: &[Bound]) -> bool
     ensures { result ≡ not (is_empty (made (holds rule) first.now second.now)) }
 {
-    let mut at = start(first, second);
-    'place: while let Some((_, next)) = step(at) {
-        if rule.holds(next.in_first, next.in_second) {
-            return true;
-        }
-        at = next;
-    }
-    false
+    first_of(rule, first, second).is_some()
 }
 
 // Adds the bound where what holds from it on isn't what held before.

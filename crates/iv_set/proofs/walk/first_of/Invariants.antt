@@ -1,7 +1,7 @@
 use Rattle.std.proofs.Common.{◌≡◌, false}
 use Rattle.iv_set.specs.Sets.{made}
 use Rattle.iv_set.specs.Walks.{holds, rest_of, left}
-use Rattle.iv_set.proofs.walk.any.Given as goal
+use Rattle.iv_set.proofs.walk.first_of.Given as goal
 
 -- the last place is no member, and what is still to come is all that there is
 abbrev pub invariant-place : goal.invariant-place
