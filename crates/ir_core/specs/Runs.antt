@@ -2,6 +2,7 @@
 -- wanted; an index outside of its spot; an argument that isn't set; a word that is no truth value where one is wanted.
 use Rattle.std.specs.Prelude.{ℕ, zero, suc, ◌+◌, ◌-◌, List, [], ◌∷◌, Option, Some, None, Bool, true, false, cond, ℤ, pos, negsuc, nat_eq, nat_lt, slice_get, if◌then◌else◌}
 use Rattle.std.specs.Fmt.{signed_decimal}
+use Rattle.std.specs.Ordering.{int_eq}
 use Rattle.run_model.specs.Storage.{Name, Value, Block as CommonBlock, Local as LocalArea, Fresh as FreshCell, Loc, Interval}
 use Rattle.run_model.specs.Acts.{World, Ended, Undefined, Stuck, Outcome, Answer, Handler, Act, Done, Get, Put, Say, Take, Ask, Fail, ◌>>=◌}
 use Rattle.run_model.specs.Turns.{After, Again, Result, run_from}
@@ -156,11 +157,18 @@ calculate f c t u = do
   y ← word f u
   or_zero_divisor (calculated c x y)
 
--- what is made of the answer to a call, whose arguments aren't kept
+abbrev pub forget : Values → Values
+forget v = record v { arguments = [] }
+
+-- a result's word; a call that answers none has none
+abbrev pub result_set : ℕ → Values → Answer → Act Values
+result_set t v None = Fail Stuck
+result_set t v (Some x) = Done (set t (Word (word_of x)) v)
+
+-- What is made of the answer to a call, whose arguments aren't kept.
 abbrev pub answered : Option ℕ → Values → Answer → Act Values
-answered None v r = Done (record v { arguments = [] })
-answered (Some t) v None = Fail Stuck
-answered (Some t) v (Some x) = Done (record { temporaries = put t (Word (word_of x)) v.temporaries; arguments = [] })
+answered None v r = Done (forget v)
+answered (Some t) v r = result_set t (forget v) r
 
 abbrev pub letter : Bool → ℕ
 letter true = 84
@@ -219,38 +227,52 @@ to b f = Done (Again (record { block = b; temporaries = f }))
 
 -- the first block where the word isn't 0, else the second
 abbrev pub chosen : ℤ → ℕ → ℕ → ℕ
-chosen (pos zero) b c = c
-chosen _ b c = b
+chosen x b c = if int_eq x (pos 0) then c else b
 
 abbrev pub or_other : Option ℕ → ℕ → ℕ
 or_other None b = b
 or_other (Some c) b = c
 
--- the label that the word counts, from 1 on, or the other block
+-- the label that the word counts, from 1 on
+abbrev pub label : List ℕ → ℤ → Option ℕ
+label labels (pos (suc k)) = slice_get labels k
+label labels _ = None
+
 abbrev pub labelled : List ℕ → ℤ → ℕ → ℕ
-labelled labels (pos (suc k)) b = or_other (slice_get labels k) b
-labelled labels _ b = b
+labelled labels x b = or_other (label labels x) b
+
+abbrev pub branched : ℕ → ℕ → ℕ → Temporaries → Act (After Here)
+branched t b c f = do
+  x ← word f t
+  to (chosen x b c) f
+
+abbrev pub switched : ℕ → List ℕ → ℕ → Temporaries → Act (After Here)
+switched t labels b f = do
+  x ← word f t
+  to (labelled labels x b) f
+
+abbrev pub returned : Option (Ty × ℕ) → Temporaries → Act (After Here)
+returned None f = Done (Result None)
+returned (Some r) f = do
+  x ← value f r.0 r.1
+  Done (Result (Some x))
 
 abbrev pub ending : End → Temporaries → Act (After Here)
 ending (Jump b) f = to b f
-ending (Branch t b c) f = do
-  x ← word f t
-  to (chosen x b c) f
-ending (Switch t labels b) f = do
-  x ← word f t
-  to (labelled labels x b) f
-ending (Return None) f = Done (Result None)
-ending (Return (Some r)) f = do
-  x ← value f r.0 r.1
-  Done (Result (Some x))
+ending (Branch t b c) f = branched t b c f
+ending (Switch t labels b) f = switched t labels b f
+ending (Return r) f = returned r f
 ending (Exit status) f = Fail (Ended status)
 
 -- A visit of a block. Arguments that are set behind its last call are forgotten.
-abbrev pub visit : Activation → Option Block → Temporaries → Act (After Here)
-visit a None f = Fail Stuck
-visit a (Some b) f = do
+abbrev pub visit_block : Activation → Block → Temporaries → Act (After Here)
+visit_block a b f = do
   v ← instructions a b.code (record { temporaries = f; arguments = [] })
   ending b.end v.temporaries
+
+abbrev pub visit : Activation → Option Block → Temporaries → Act (After Here)
+visit a None f = Fail Stuck
+visit a (Some b) f = visit_block a b f
 
 -- one visit of a block is one turn, and so one step
 abbrev pub body_turn : Activation → Listing → Here → Act (After Here)

@@ -1,6 +1,6 @@
 -- Words: integers of 64 bits, in two's complement. A truth value is the word 1 or 0.
-use Rattle.std.specs.Prelude.{zero, suc, Option, Some, None, Bool, true, false, not, ℤ, pos, negsuc, ◌+ℤ◌, ◌-ℤ◌, ◌*ℤ◌, int_lt, int_le, int_rem, if◌then◌else◌}
-use Rattle.std.specs.Int.{int_bit_and, int_bit_or, int_bit_xor, is_negative, w64}
+use Rattle.std.specs.Prelude.{Option, Some, None, Bool, true, false, not, ℤ, pos, negsuc, ◌+ℤ◌, ◌-ℤ◌, ◌*ℤ◌, int_lt, int_le, int_rem, if◌then◌else◌}
+use Rattle.std.specs.Int.{int_bit_and, int_bit_or, int_bit_xor, w64}
 use Rattle.std.specs.Ordering.{int_eq}
 use Rattle.run_model.specs.Storage.{Value, Integer, Logical}
 use Rattle.f77_tree.specs.declared.unit.Ty.{Ty}
@@ -20,9 +20,7 @@ word_of (Logical b) = truth_word b
 
 -- the truth value of a word, if it is one's
 abbrev pub truth_of : ℤ → Option Bool
-truth_of (pos zero) = Some false
-truth_of (pos (suc zero)) = Some true
-truth_of _ = None
+truth_of x = if int_eq x (pos 0) then Some false else if int_eq x (pos 1) then Some true else None
 
 abbrev pub logical : Option Bool → Option Value
 logical None = None
@@ -36,6 +34,10 @@ value_of ty.Logical x = logical (truth_of x)
 -- The remainder has the sign of the dividend.
 abbrev pub remainder : ℤ → ℤ → Option ℤ
 remainder x y = if int_eq y (pos 0) then None else Some (int_rem x y)
+
+-- all 64 bits are the sign
+abbrev pub shifted : ℤ → ℤ
+shifted x = if int_lt x (pos 0) then negsuc 0 else pos 0
 
 -- What is calculated with two words. Only a zero divisor gives nothing.
 abbrev pub calculated : Calc → ℤ → ℤ → Option ℤ
@@ -53,4 +55,4 @@ calculated Lt x y = Some (truth_word (int_lt x y))
 calculated Le x y = Some (truth_word (int_le x y))
 calculated Gt x y = Some (truth_word (int_lt y x))
 calculated Ge x y = Some (truth_word (int_le y x))
-calculated Shift63 x y = Some (if is_negative x then negsuc 0 else pos 0)
+calculated Shift63 x y = Some (shifted x)
