@@ -1,5 +1,5 @@
 -- The places of turns, and the ends of runs of steps.
-use Rattle.std.proofs.Common.{◌≡◌, ℕ, suc, [], map, pos, sym, ap, ◌∙◌}
+use Rattle.std.proofs.Common.{◌≡◌, ℕ, suc, [], pos, sym, ap, ◌∙◌}
 use Rattle.run_model.specs.Acts.{World, and_then, Handler}
 use Rattle.run_model.specs.Turns.{turns, run_from}
 use Rattle.f77_flow.specs.Graph.{At}

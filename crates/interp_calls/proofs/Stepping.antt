@@ -1,5 +1,5 @@
 -- Steps and dummy arrays one after another, played.
-use Rattle.std.proofs.Common.{◌≡◌, ℕ, ◌+◌, List, [], ◌∷◌, drop, map, refl, sym, ap, ◌∙◌}
+use Rattle.std.proofs.Common.{◌≡◌, ℕ, ◌+◌, List, [], ◌∷◌, drop, map, sym, ap, ◌∙◌}
 use Rattle.run_model.specs.Acts.{World, Fine, then_do, Act, and_then, Handler, play}
 use Rattle.run_model.proofs.Order.{play-and_then}
 use Rattle.f77_semantics.specs.Program as program

@@ -25,6 +25,10 @@ pub record IsUnit (find : Name → ℕ) (p : Procedure) (u : Routine) : Type 0 w
   pub own : p.own ≡ find u.name
   pub callees : p.callees.items ≡ map find u.callees
 
+-- in whatever unit a procedure is
+abbrev pub InEach : Procedure → (Routine → Type 0) → Type 0
+InEach p P = (find : Name → ℕ) (u : Routine) → IsUnit find p u → P u
+
 -- procedures and units one by one
 abbrev pub AreUnits : (Name → ℕ) → List Procedure → List Routine → Type 0
 AreUnits find [] [] = Unit {0}

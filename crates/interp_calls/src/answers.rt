@@ -16,7 +16,8 @@ use interp_steps::{Operand, push_answer};
 
 /// Puts the result of a function that was called at a site on the stack.
 pub fn referred(answer: Result<Option<Value>, Halt>, stack: &mut Vec<Operand>) -> Result<(), Halt>
-    ensures run { (h : a.Handler) → AllAppend h → (f : e.Frame) → (site : ℕ) → (old : s.Operands) → (before after : a.World) → (then now : Option (List ℕ)) → c.Answers answer h site old (stack_of stack.old.items) before after then now
+    ensures run { (h : a.Handler) → AllAppend h → (f : e.Frame) → (site : ℕ) → (old : s.Operands)
+        → (before after : a.World) → (then now : Option (List ℕ)) → c.Answers answer h site old (stack_of stack.old.items) before after then now
         → Sends result (λ _. a.Fine (stack_of stack.new.items)) before after then now (a.play h (s.step f (Refer site) old)) }
     ensures whole { IsWhole result → IsWhole answer }
     ensures fault { result ≡ Err Halt.WriteFault → answer ≡ Err Halt.WriteFault }
@@ -29,7 +30,8 @@ pub fn referred(answer: Result<Option<Value>, Halt>, stack: &mut Vec<Operand>) -
 
 /// Goes on behind the call of a subroutine.
 pub fn performed(answer: Result<Option<Value>, Halt>) -> Result<(), Halt>
-    ensures run { (h : a.Handler) → (f : e.Frame) → (site : ℕ) → (old new : s.Operands) → (before after : a.World) → (then now : Option (List ℕ)) → c.Answers answer h site old new before after then now
+    ensures run { (h : a.Handler) → (f : e.Frame) → (site : ℕ) → (old new : s.Operands) → (before after : a.World) → (then now : Option (List ℕ))
+        → c.Answers answer h site old new before after then now
         → Sends result (λ _. a.Fine new) before after then now (a.play h (s.step f (Perform site) old)) }
     ensures whole { IsWhole result → IsWhole answer }
     ensures fault { result ≡ Err Halt.WriteFault → answer ≡ Err Halt.WriteFault }

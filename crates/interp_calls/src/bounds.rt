@@ -23,7 +23,8 @@ type Pair = (i64, Option<i64>);
 type Sized = (i64, Option<u128>);
 
 fn lower_on<'s, 'a>(operands: &'s [Operand<'a>]) -> Option<(i64, &'s [Operand<'a>])>
-    ensures value { MatchOption result (b.lower_on (map operand_of operands.now) ≡ None) (λ p. b.lower_on (map operand_of operands.now) ≡ Some (p.0, map operand_of p.1.now)) }
+    ensures value { MatchOption result (b.lower_on (map operand_of operands.now) ≡ None)
+        (λ p. b.lower_on (map operand_of operands.now) ≡ Some (p.0, map operand_of p.1.now)) }
     ensures shorter { IfSome result (λ p. length p.1.now < length operands.now) }
 {
     match operands.split_first() {
@@ -33,7 +34,8 @@ fn lower_on<'s, 'a>(operands: &'s [Operand<'a>]) -> Option<(i64, &'s [Operand<'a
 }
 
 fn upper_on<'s, 'a>(operands: &'s [Operand<'a>]) -> Option<(Option<i64>, &'s [Operand<'a>])>
-    ensures value { MatchOption result (b.upper_on (map operand_of operands.now) ≡ None) (λ p. b.upper_on (map operand_of operands.now) ≡ Some (p.0, map operand_of p.1.now)) }
+    ensures value { MatchOption result (b.upper_on (map operand_of operands.now) ≡ None)
+        (λ p. b.upper_on (map operand_of operands.now) ≡ Some (p.0, map operand_of p.1.now)) }
     ensures shorter { IfSome result (λ p. length p.1.now < length operands.now) }
 {
     match operands.split_first() {
@@ -45,7 +47,8 @@ fn upper_on<'s, 'a>(operands: &'s [Operand<'a>]) -> Option<(Option<i64>, &'s [Op
 
 // A lower and an upper bound, and what stands above.
 fn pair_on<'s, 'a>(operands: &'s [Operand<'a>]) -> Option<(Pair, &'s [Operand<'a>])>
-    ensures value { MatchOption result (b.pair_on (map operand_of operands.now) ≡ None) (λ p. b.pair_on (map operand_of operands.now) ≡ Some (p.0, map operand_of p.1.now)) }
+    ensures value { MatchOption result (b.pair_on (map operand_of operands.now) ≡ None)
+        (λ p. b.pair_on (map operand_of operands.now) ≡ Some (p.0, map operand_of p.1.now)) }
     ensures shorter { IfSome result (λ p. length p.1.now < length operands.now) }
 {
     let (lower, others) = lower_on(operands)?;

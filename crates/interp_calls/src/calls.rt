@@ -51,7 +51,8 @@ pub fn call<'p, 'u, O: Sink>(
     out: &mut O,
 ) -> Result<Option<Value>, Halt>
     requires sent { state.old.out.items ≡ [] }
-    ensures run { (all : List program.Routine) → (units : r.Program) → Represents procedures.now all units → (q : Name) → slice_get all at ≡ Some (units q)
+    ensures run { (all : List program.Routine) → (units : r.Program) → Represents procedures.now all units
+        → (q : Name) → slice_get all at ≡ Some (units q)
         → Sends result (λ v. a.Fine (option_map stored v)) (world_of state.old) (world_of state.new) (O.written out.old) (O.written out.new)
         (r.meaning units depth q (map interval_of actuals.now)) }
     ensures sent { IsWhole result → state.new.out.items ≡ [] }

@@ -1,9 +1,7 @@
 //! The entry of a unit: its local cells are cleared, and its dummies stand for the actual arguments.
-ghost use Rattle.std.specs.Prelude.{◌≡◌, ℕ, map, IfOk};
-ghost use Rattle.f77_semantics.specs.Program as program;
+ghost use Rattle.std.specs.Prelude.{◌≡◌, map, IfOk};
 ghost use Rattle.f77_semantics.specs.Expressions as ex;
 ghost use Rattle.f77_semantics.specs.Units as r;
-ghost use Rattle.f77_values.specs.Tables.{Name};
 ghost use Rattle.interp_steps.specs.Frames.{interval_of, frame_of};
 ghost use Rattle.interp_steps.specs.Worlds.{world_of};
 ghost use Rattle.interp_calls.specs.Entries as e;
@@ -58,7 +56,7 @@ pub fn entered<'p, 'u>(
     procedure: &'p Procedure<'u>,
     actuals: &[Interval<'p>],
 ) -> Result<Frame<'p>, AllocError>
-    ensures { (find : Name → ℕ) → (u : program.Routine) → p.IsUnit find procedure.now u → IfOk result (λ f. frame_of f ≡ r.entered u (map interval_of actuals.now)) }
+    ensures { p.InEach procedure.now (λ u. IfOk result (λ f. frame_of f ≡ r.entered u (map interval_of actuals.now))) }
 {
     let actuals = associated(alloc, procedure.arrays.as_slice(), actuals)?;
     Ok(Frame {
@@ -70,7 +68,7 @@ pub fn entered<'p, 'u>(
 
 /// Makes the cells of a unit undefined that it doesn't keep.
 pub fn clear(procedure: &Procedure, state: &mut State)
-    ensures cleared { (find : Name → ℕ) → (u : program.Routine) → p.IsUnit find procedure.now u → world_of state.new ≡ r.cleared u (world_of state.old) }
+    ensures cleared { p.InEach procedure.now (λ u. world_of state.new ≡ r.cleared u (world_of state.old)) }
     ensures printed { state.new.out ≡ state.old.out }
 {
     state

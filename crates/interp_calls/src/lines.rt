@@ -1,8 +1,7 @@
 //! The pieces of a unit, by the numbers of their statements.
-ghost use Rattle.std.specs.Prelude.{◌≡◌, ℕ, ◌<◌, length, option_map, MatchOption, IfSome, OnOk};
+ghost use Rattle.std.specs.Prelude.{◌≡◌, ◌<◌, length, option_map, MatchOption, IfSome, OnOk};
 ghost use Rattle.f77_semantics.specs.Program as program;
 ghost use Rattle.f77_semantics.specs.Statements as s;
-ghost use Rattle.f77_values.specs.Tables.{Name};
 ghost use Rattle.interp_steps.specs.Frames.{frame_of};
 ghost use Rattle.interp_turns.specs.Flows.{variable_of};
 ghost use Rattle.interp_turns.specs.Places.{here_of, Stands};
@@ -29,7 +28,7 @@ pub struct Numbered<'p> {
 
 fn line<'p, 'u>(procedure: &'p Procedure<'u>, k: usize) -> Option<&'p Line>
     ensures within { IfSome result (λ _. k < length procedure.now.control.statements.now) }
-    ensures line { (find : Name → ℕ) → (u : program.Routine) → p.IsUnit find procedure.now u → MatchOption result (s.statement u k ≡ program.NoStatement) (λ l. IsLine l.now (s.statement u k)) }
+    ensures line { p.InEach procedure.now (λ u. MatchOption result (s.statement u k ≡ program.NoStatement) (λ l. IsLine l.now (s.statement u k))) }
 {
     if k < procedure.control.statements.len() {
         let lines = procedure.routine.lines.as_slice();
@@ -42,7 +41,7 @@ fn line<'p, 'u>(procedure: &'p Procedure<'u>, k: usize) -> Option<&'p Line>
 /// The piece of statement k.
 pub fn piece<'p, 'u>(procedure: &'p Procedure<'u>, k: usize) -> Option<&'p Piece>
     ensures within { IfSome result (λ _. k < length procedure.now.control.statements.now) }
-    ensures piece { (find : Name → ℕ) → (u : program.Routine) → p.IsUnit find procedure.now u → MatchOption result (s.statement u k ≡ program.NoStatement) (λ piece. IsPiece piece.now (s.statement u k)) }
+    ensures piece { p.InEach procedure.now (λ u. MatchOption result (s.statement u k ≡ program.NoStatement) (λ x. IsPiece x.now (s.statement u k))) }
 {
     match line(procedure, k) {
         Some(line) => Some(&line.piece),
@@ -53,7 +52,8 @@ pub fn piece<'p, 'u>(procedure: &'p Procedure<'u>, k: usize) -> Option<&'p Piece
 /// The piece inside the logical IF at k.
 pub fn inner_piece<'p, 'u>(procedure: &'p Procedure<'u>, k: usize) -> Option<&'p Piece>
     ensures within { IfSome result (λ _. k < length procedure.now.control.statements.now) }
-    ensures piece { (find : Name → ℕ) → (u : program.Routine) → p.IsUnit find procedure.now u → MatchOption result (s.inner (s.statement u k) ≡ program.NoStatement) (λ piece. IsPiece piece.now (s.inner (s.statement u k))) }
+    ensures piece { p.InEach procedure.now (λ u. MatchOption result (s.inner (s.statement u k) ≡ program.NoStatement)
+        (λ x. IsPiece x.now (s.inner (s.statement u k)))) }
 {
     match line(procedure, k) {
         Some(line) => line.inner.as_ref(),
@@ -81,7 +81,8 @@ pub fn advance_at<'p, 'u>(
     state: &mut State,
 ) -> Result<Turn, Stop>
     requires stands { Stands (length procedure.now.control.statements.now) here.old }
-    ensures turn { (find : Name → ℕ) → (u : program.Routine) → p.IsUnit find procedure.now u → Turns result here.new state.old state.new (s.advance u (frame_of frame.now) (here_of here.old) k (s.statement u k)) }
+    ensures turn { p.InEach procedure.now (λ u. Turns result here.new state.old state.new
+        (s.advance u (frame_of frame.now) (here_of here.old) k (s.statement u k))) }
     ensures stands { OnOk result (Stands (length procedure.now.control.statements.now) here.new) }
 {
     match piece(procedure, k) {

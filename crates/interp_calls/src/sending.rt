@@ -58,7 +58,9 @@ pub fn send_after<O: Sink>(
     state: &mut State,
     out: &mut O,
 ) -> Result<Turn, Halt>
-    ensures run { (view : Turns → t.After s.Here) → (run : a.World → a.Outcome (t.After s.Here)) → (w : a.World) → (before : Option (List ℕ)) → Sends taken (λ y. a.Fine (view y)) w (world_of state.old) before (O.written out.old) run → Sends result (λ y. a.Fine (view y)) w (world_of state.new) before (O.written out.new) run }
+    ensures run { (view : Turns → t.After s.Here) → (run : a.World → a.Outcome (t.After s.Here)) → (w : a.World) → (before : Option (List ℕ))
+        → Sends taken (λ y. a.Fine (view y)) w (world_of state.old) before (O.written out.old) run
+        → Sends result (λ y. a.Fine (view y)) w (world_of state.new) before (O.written out.new) run }
     ensures sent { IsWhole result → state.new.out.items ≡ [] }
     ensures same { IfOk result (λ turn. taken ≡ Ok turn) }
     ensures fault { result ≡ Err Halt.WriteFault → (taken ≡ Err Halt.WriteFault) ⊎ Rose (O.faults out.old) (O.faults out.new) }

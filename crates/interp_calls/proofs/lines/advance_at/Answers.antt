@@ -1,4 +1,4 @@
-use Rattle.std.proofs.Common.{sym, ap, ◌∙◌, subst}
+use Rattle.std.proofs.Common.{sym, ◌∙◌, subst}
 use Rattle.run_model.specs.Acts.{play}
 use Rattle.f77_semantics.specs.Program.{Statement}
 use Rattle.f77_semantics.specs.Statements.{advance, statement}
