@@ -20,20 +20,14 @@ use Rattle.f77_names.specs.declared.declarations.Shape.{Shape}
 use Rattle.f77_names.specs.Declarations.{declared, of_head, in_block, in_form, declarations_from, declarations, shape_told, shapes}
 use Rattle.f77_semantics.specs.Terms.{Meant, constant_in}
 use Rattle.f77_semantics.specs.Data.{item_units, times, value_list, constants_of, given_by, form_gives, initial}
-use Rattle.word_laws.specs.Words.{IsWord64}
-use Rattle.word_laws.specs.Literals.{is_word64, literal_step, has_word64, bound_has_word64, declarator_has_word64, data_has_word64, form_has_word64}
+use Rattle.run_inputs.specs.Inputs.{IsWord64}
+use Rattle.run_inputs.proofs.Decided.{word}
+use Rattle.word_laws.specs.Literals.{literal_step, has_word64, bound_has_word64, declarator_has_word64, data_has_word64, form_has_word64}
 use Rattle.word_laws.proofs.Terms.{Has, MayHave, operate_has, negated_has, kept_has, denied_has}
 
 pub both : (a b : Bool) → (a && b) ≡ true → (a ≡ true) × (b ≡ true)
 both true b e = (refl, e)
 both false b e = let z : false ≡ true = e in cc
-
-below : (n m : ℕ) → nat_lt n m ≡ true → n < m
-below n m e = grind (arith, nat_tests)
-
-pub word : (z : ℤ) → is_word64 z ≡ true → IsWord64 z
-word (pos n) e = record { sfits = below n (2 ^ 63) e }
-word (negsuc n) e = record { sfits = below n (2 ^ 63) e }
 
 -- ---- lists
 
