@@ -1,5 +1,5 @@
 -- Integers of 64 bits in two's complement, and inputs of such.
-use Rattle.std.specs.Prelude.{◌≡◌, ℕ, ◌^◌, List, Bool, true, ℤ, pos, negsuc, nat_lt, FitsSigned, ◌↔◌}
+use Rattle.std.specs.Prelude.{◌≡◌, ◌^◌, List, Bool, true, ℤ, pos, negsuc, nat_lt, FitsSigned, ◌↔◌}
 use Rattle.std.specs.Int.{w64}
 use Rattle.std.specs.List.{AllByRecursion, list_all}
 

@@ -1,5 +1,5 @@
 -- Units whose literals have 64 bits.
-use Rattle.std.specs.Prelude.{◌^◌, List, Option, Some, None, Bool, true, ◌&&◌, ℤ, pos, negsuc, nat_lt}
+use Rattle.std.specs.Prelude.{List, Option, Some, None, Bool, true, ◌&&◌}
 use Rattle.std.specs.List.{list_all}
 use Rattle.run_inputs.specs.Inputs.{is_word64}
 use Rattle.f77_tree.specs.declared.expr.Expr.{Expr, fold-Expr}
