@@ -51,7 +51,7 @@ module _ (bytes : List ℕ) (s : State) (started : StartsOn bytes s) (steps : �
   reach = (steps + 1) * steps_each body
 
   run_at : (r : Run) → Source trees [] reach ≡ r → IsOrderly r
-  run_at r e = subst IsOrderly e (started.made.orderly [] reach)
+  run_at r e = subst IsOrderly e (started.made.orderly [] tt reach)
 
   -- what the machine printed so far is a beginning of what the program prints
   begins : (run steps s).outcome ≡ Running → IsDefined trees → Begins (output steps s) (text_of (Source trees [] reach))
@@ -59,11 +59,11 @@ module _ (bytes : List ℕ) (s : State) (started : StartsOn bytes s) (steps : �
     where
       go : (r : Run) → Source trees [] reach ≡ r → Begins (output steps s) (text_of r)
       go (Going out) e =
-          let k = started.made.agrees.going [] s started.loads reach out e in
+          let k = started.made.agrees.going [] tt s started.loads reach out e in
           let l : steps + 1 ≤ k.count + 1 = le_of_mul-le-mul_right {m = steps + 1} {n = k.count + 1} {k = steps_each body} k.enough (omega arith) in
           record { more = output (k.count - steps) (run steps s); whole = sym k.prints ∙ output-grows steps k.count s (omega (arith, l)) }
       go (Finished status out) e =
-          let k = started.made.agrees.ended [] s started.loads reach status out e in
+          let k = started.made.agrees.ended [] tt s started.loads reach status out e in
           longer k.count k.halts (cases_lt steps k.count) k.prints
         where
           longer : (count : ℕ) → (run count s).outcome ≡ Halted status → (steps < count) ⊎ (count ≤ steps) → output count s ≡ out → Begins (output steps s) out
@@ -76,12 +76,12 @@ module _ (bytes : List ℕ) (s : State) (started : StartsOn bytes s) (steps : �
 
   -- the program ends as the machine does
   ends : (status : ℕ) → (run steps s).outcome ≡ Halted status → IsDefined trees → (Finishes trees status (output steps s)) × (status ≡ 0)
-  ends status halted defined = go (Source trees [] reach) refl (started.made.agrees.halted [] s started.loads steps status halted)
+  ends status halted defined = go (Source trees [] reach) refl (started.made.agrees.halted [] tt s started.loads steps status halted)
     where
       go : (r : Run) → Source trees [] reach ≡ r → HasEnded (Source trees [] reach) → (Finishes trees status (output steps s)) × (status ≡ 0)
       go (Going out) e h = absurd (subst HasEnded e h)
       go (Finished other out) e h =
-          let k = started.made.agrees.ended [] s started.loads reach other out e in
+          let k = started.made.agrees.ended [] tt s started.loads reach other out e in
           let same = same_end s k.count steps (not_halted (run k.count s).outcome other k.halts) (not_halted (run steps s).outcome status halted) in
           let one : Halted other ≡ Halted status = sym k.halts ∙ ap (λ x. x.outcome) same.stands ∙ halted in
           let number : other ≡ status = cc in
@@ -95,7 +95,7 @@ module _ (bytes : List ℕ) (s : State) (started : StartsOn bytes s) (steps : �
     where
       go : (steps < 64 + 32 * text_bytes started.made.text.units) ⊎ (64 + 32 * text_bytes started.made.text.units ≤ steps) → steps < 64 + 32 * text_bytes started.made.text.units
       go (inl l) = l
-      go (inr l) = absurd (started.made.bound [] s started.loads steps l running)
+      go (inr l) = absurd (started.made.bound [] tt s started.loads steps l running)
 
   -- a program that ends at step n has ended once n * W + 2 instructions are done
   late : (run steps s).outcome ≡ Running → (n status : ℕ) (out : List ℕ) → Source trees [] n ≡ Finished status out → steps < n * words_each body + 2
@@ -104,7 +104,7 @@ module _ (bytes : List ℕ) (s : State) (started : StartsOn bytes s) (steps : �
       go : (steps < n * words_each body + 2) ⊎ (n * words_each body + 2 ≤ steps) → steps < n * words_each body + 2
       go (inl l) = l
       go (inr l) =
-          let k = started.made.agrees.ended [] s started.loads n status out e in
+          let k = started.made.agrees.ended [] tt s started.loads n status out e in
           let same = end_stays s k.count steps (omega (arith, l, k.within)) (not_halted (run k.count s).outcome status k.halts) in
           absurd (not_halted (run steps s).outcome status (ap (λ x. x.outcome) same.stands ∙ k.halts) running)
 
@@ -150,5 +150,5 @@ module _ (bytes : List ℕ) (s : State) (started : StartsOn bytes s) (steps : �
             out = output steps s;
             wrote = line_of (Trap pc cause) r w;
             steps = reach;
-            undefined = started.made.agrees.trapped [] s started.loads steps pc cause r;
+            undefined = started.made.agrees.trapped [] tt s started.loads steps pc cause r;
           })

@@ -10,6 +10,7 @@ use Rattle.f77_tree.specs.declared.fault.Refused.{Refused}
 use Rattle.f77_tree.specs.declared.fault.Refused.TheVariants.{Fault, OutOfMemory as Starved}
 use Rattle.thin_form.specs.declared.statement.Statement.{Statement}
 use Rattle.thin_text.specs.Thin.{text_bytes}
+use Rattle.run_inputs.specs.Inputs.{AllWord64}
 use Rattle.rn_session.specs.Texts.{IsThinText, IsTextFault}
 use Rattle.f77_semantics.specs.Source.{Source}
 use Rattle.thin_code.specs.Sizes.{steps_each, words_each}
@@ -21,12 +22,12 @@ use Rattle.rn_session.specs.declared.status.Status.TheVariants.{Ok as Done, BadW
 use Rattle.rn_session.specs.Words.{steps_of}
 use Rattle.rn_session.specs.Replies.{Reply, run_reply, fault_reply, MayEnd}
 
--- A file that agrees with the program that a thin text is, by the runs of its units. Its machine ends within 64 instructions and 32 for
--- each byte of the statement texts; the program itself ends with status 0 or never.
+-- A file that agrees with the program that a thin text is, by the runs of its units on inputs of integers of 64 bits. Its machine ends
+-- within 64 instructions and 32 for each byte of the statement texts; the program itself ends with status 0 or never.
 pub record IsFileOf (bytes file : List ℕ) : Type 0 where
   pub body : List Statement
   pub text : IsThinText bytes body
-  pub orderly : (input : List ℤ) (n : ℕ) → IsOrderly (Source text.trees input n)
+  pub orderly : (input : List ℤ) → AllWord64 input → (n : ℕ) → IsOrderly (Source text.trees input n)
   pub agrees : Agrees (Source text.trees) (steps_each body) (words_each body) file
   pub bound : EndsWithin file (64 + 32 * text_bytes text.units)
 

@@ -108,15 +108,15 @@ module _ (body : List Statement) (p : IsProgram body) (input : List ℤ) (s : St
 pub agrees : (body : List Statement) → IsProgram body → IsSmall body → Agrees (Source body) (steps_each body) (words_each body) (file_of body)
 agrees body p q = record {
   shaped = λ none. none _ _ _ (shaped body q);
-  going = λ input s h n out e. let b = begun body p q input s h in reaches body p input s b n out _ (source body p input s b n) e;
-  ended = λ input s h n status out e. let b = begun body p q input s h in ends body p input s b n status out _ (source body p input s b n) e;
-  halted = λ input s h m status e. let b = begun body p q input s h in
+  going = λ input words s h n out e. let b = begun body p q input s h in reaches body p input s b n out _ (source body p input s b n) e;
+  ended = λ input words s h n status out e. let b = begun body p q input s h in ends body p input s b n status out _ (source body p input s b n) e;
+  halted = λ input words s h m status e. let b = begun body p q input s h in
       has_ended body p input s b ((m + 1) * steps_each body) _ (enough_steps body p m) (source body p input s b ((m + 1) * steps_each body));
-  trapped = λ input s h m pc cause e. absurd (never_traps s m (5 + body_words p.front) pc cause (over (frame_of body) p.front s (begun body p q input s h)).halts e);
+  trapped = λ input words s h m pc cause e. absurd (never_traps s m (5 + body_words p.front) pc cause (over (frame_of body) p.front s (begun body p q input s h)).halts e);
 }
 
 pub bounded : (body : List Statement) → IsProgram body → IsSmall body → EndsWithin (file_of body) (64 + 32 * sum_by size_of body)
-bounded body p q input s h m l r =
+bounded body p q input words s h m l r =
     let o = over (frame_of body) p.front s (begun body p q input s h) in
     let k : 5 + body_words p.front ≤ m = omega (arith, l, size_all body p) in
     let z : Halted 0 ≡ Running = sym (stays_halted s (5 + body_words p.front) m k o.halts) ∙ r in

@@ -1,5 +1,6 @@
 -- When an executable does what a program means, whatever the meaning is by which the program's runs are told.
 use Rattle.std.specs.Prelude.{◌≡◌, ◌≢◌, ℕ, ◌+◌, ◌*◌, ◌≤◌, List, ℤ}
+use Rattle.run_inputs.specs.Inputs.{AllWord64}
 use Rattle.run_model.specs.Runs.{Run, Going, Finished, UndefinedAt, Wrong}
 use Rattle.rv_machine.specs.declared.outcome.Outcome.TheVariants.{Running, Halted, Trap}
 use Rattle.rv_machine.specs.declared.outcome.TrapCause.{TrapCause}
@@ -42,15 +43,15 @@ IsOrderly (UndefinedAt n c out) = Unit {0}
 IsOrderly Wrong = ⊥
 
 -- A meaning gives the run of the program on an input, just before step n + 1 would begin. The file is an executable, and on every
--- input the machine that starts on it does what the program does: it goes on and ends as the program does within the bounds, and it
--- halts and traps only where the program has ended or is undefined.
+-- input of integers of 64 bits the machine that starts on it does what the program does: it goes on and ends as the program does within
+-- the bounds, and it halts and traps only where the program has ended or is undefined.
 pub record Agrees (meaning : List ℤ → ℕ → Run) (steps words : ℕ) (file : List ℕ) : Type 0 where
   pub shaped : NoShape file → ⊥
-  pub going : (input : List ℤ) (s : State) → Loads file input s → (n : ℕ) (out : List ℕ) → meaning input n ≡ Going out → Reaches steps words s n out
-  pub ended : (input : List ℤ) (s : State) → Loads file input s → (n status : ℕ) (out : List ℕ) → meaning input n ≡ Finished status out → Ends words s n status out
-  pub halted : (input : List ℤ) (s : State) → Loads file input s → (m status : ℕ) → (run m s).outcome ≡ Halted status → HasEnded (meaning input ((m + 1) * steps))
-  pub trapped : (input : List ℤ) (s : State) → Loads file input s → (m pc : ℕ) (cause : TrapCause) → (run m s).outcome ≡ Trap pc cause → IsUndefined (meaning input ((m + 1) * steps))
+  pub going : (input : List ℤ) → AllWord64 input → (s : State) → Loads file input s → (n : ℕ) (out : List ℕ) → meaning input n ≡ Going out → Reaches steps words s n out
+  pub ended : (input : List ℤ) → AllWord64 input → (s : State) → Loads file input s → (n status : ℕ) (out : List ℕ) → meaning input n ≡ Finished status out → Ends words s n status out
+  pub halted : (input : List ℤ) → AllWord64 input → (s : State) → Loads file input s → (m status : ℕ) → (run m s).outcome ≡ Halted status → HasEnded (meaning input ((m + 1) * steps))
+  pub trapped : (input : List ℤ) → AllWord64 input → (s : State) → Loads file input s → (m pc : ℕ) (cause : TrapCause) → (run m s).outcome ≡ Trap pc cause → IsUndefined (meaning input ((m + 1) * steps))
 
--- The machine isn't running any more after so many instructions.
+-- On every such input the machine isn't running any more after so many instructions.
 abbrev pub EndsWithin : List ℕ → ℕ → Type 0
-EndsWithin file most = (input : List ℤ) (s : State) → Loads file input s → (m : ℕ) → most ≤ m → (run m s).outcome ≢ Running
+EndsWithin file most = (input : List ℤ) → AllWord64 input → (s : State) → Loads file input s → (m : ℕ) → most ≤ m → (run m s).outcome ≢ Running

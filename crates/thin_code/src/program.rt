@@ -1,6 +1,7 @@
 //! The executable of a program.
 ghost use Rattle.std.specs.Prelude.{◌≡◌, ℕ, ℤ, List, ◌+◌, ◌*◌, ◌^◌, ◌<◌, ◌≤◌, length, IfOk, sum_by};
 ghost use Rattle.indexmap.specs.IndexSet.{index_set_len};
+ghost use Rattle.run_inputs.specs.Inputs.{AllWord64};
 ghost use Rattle.thin_form.specs.Programs.{IsProgram, IsSmall, size_of};
 ghost use Rattle.thin_code.specs.Layout.{names_of};
 ghost use Rattle.thin_code.specs.Code.{file_of};
@@ -21,7 +22,7 @@ pub fn program_file(alloc: Global, body: &[Statement]) -> Result<Vec<u8>, AllocE
     requires small { IsSmall body.now }
     ensures agrees { IfOk result (λ file. Agrees (Source body.now) (steps_each body.now) (words_each body.now) file.items) }
     // The run of a program is never stuck, and ends with status 0.
-    ensures orderly { (input : List ℤ) (n : ℕ) → IsOrderly (Source body.now input n) }
+    ensures orderly { (input : List ℤ) → AllWord64 input → (n : ℕ) → IsOrderly (Source body.now input n) }
     ensures bound { IfOk result (λ file. EndsWithin file.items (64 + 32 * sum_by size_of body.now)) }
 {
     linked(alloc, body)

@@ -3,7 +3,8 @@ use Rattle.std.proofs.Common.{◌≡◌, ℕ, zero, suc, List, [], ◌∷◌, �
 use Rattle.run_model.specs.Storage.{Value, Loc, Interval, loc_eq, put_cell}
 use Rattle.run_model.specs.Acts.{World, Outcome, Fine, Stop, then_do, Act, Done, Get, Put, Say, Take, Ask, Fail, and_then, Answer, Handler, play, with_cell, with_input}
 use Rattle.run_model.specs.Turns.{After, Again, Result, ticked, follow, turns}
-use Rattle.word_laws.specs.Words.{IsWord64, AllWord64, HasWord64, InWord64, AnswersWord64, EndsInWord64}
+use Rattle.run_inputs.specs.Inputs.{IsWord64, AllWord64}
+use Rattle.word_laws.specs.Words.{HasWord64, InWord64, AnswersWord64, EndsInWord64}
 
 abbrev pub Keeps : {A : Type 0} → (A → Type 0) → Act A → Type 0
 Keeps Q (Done a) = Q a

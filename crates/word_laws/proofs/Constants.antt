@@ -1,6 +1,5 @@
 -- Constant expressions of integers of 64 bits, named constants, bounds, and what DATA gives.
-use Rattle.std.proofs.Common.{◌≡◌, ℕ, zero, suc, ◌<◌, ◌^◌, List, [], ◌∷◌, ◌++◌, Option, Some, None, Bool, true, false, cond, ◌&&◌, ◌==◌, ℤ, pos, negsuc, refl, sym, ◌∙◌, subst, arith, map, flat_map, length, nat_lt, is_some, if◌then◌else◌}
-use Rattle.std.proofs.lemmas.Bool.Decides.{nat_tests}
+use Rattle.std.proofs.Common.{◌≡◌, ℕ, zero, suc, List, [], ◌∷◌, ◌++◌, Option, Some, None, Bool, true, false, cond, ◌&&◌, ◌==◌, refl, sym, ◌∙◌, subst, map, flat_map, length, is_some, if◌then◌else◌}
 use Rattle.std.specs.List.{AllByRecursion, list_all, fold, repeat, zip}
 use Rattle.f77_tree.specs.declared.expr.Expr.{Expr, out-Expr, roll-Expr, ind-Expr, fold-roll-Expr}
 use Rattle.f77_tree.specs.declared.expr.Expr.TheFolds.{map-Expr}
@@ -20,20 +19,13 @@ use Rattle.f77_names.specs.declared.declarations.Shape.{Shape}
 use Rattle.f77_names.specs.Declarations.{declared, of_head, in_block, in_form, declarations_from, declarations, shape_told, shapes}
 use Rattle.f77_semantics.specs.Terms.{Meant, constant_in}
 use Rattle.f77_semantics.specs.Data.{item_units, times, value_list, constants_of, given_by, form_gives, initial}
-use Rattle.word_laws.specs.Words.{IsWord64}
-use Rattle.word_laws.specs.Literals.{is_word64, literal_step, has_word64, bound_has_word64, declarator_has_word64, data_has_word64, form_has_word64}
+use Rattle.run_inputs.proofs.Decided.{word}
+use Rattle.word_laws.specs.Literals.{literal_step, has_word64, bound_has_word64, declarator_has_word64, data_has_word64, form_has_word64}
 use Rattle.word_laws.proofs.Terms.{Has, MayHave, operate_has, negated_has, kept_has, denied_has}
 
 pub both : (a b : Bool) → (a && b) ≡ true → (a ≡ true) × (b ≡ true)
 both true b e = (refl, e)
 both false b e = let z : false ≡ true = e in cc
-
-below : (n m : ℕ) → nat_lt n m ≡ true → n < m
-below n m e = grind (arith, nat_tests)
-
-pub word : (z : ℤ) → is_word64 z ≡ true → IsWord64 z
-word (pos n) e = record { sfits = below n (2 ^ 63) e }
-word (negsuc n) e = record { sfits = below n (2 ^ 63) e }
 
 -- ---- lists
 

@@ -21,7 +21,8 @@ use Rattle.f77_semantics.specs.Program.{Term, Literal, Text, Variable, Element, 
 use Rattle.f77_semantics.specs.declared.storage.Array.{Array}
 use Rattle.f77_semantics.specs.Expressions.{Frame, at, shape, numbered, integers, element, sequence, scalar, resulting, fresh, fetch, store, value, values, actuals}
 use Rattle.f77_semantics.specs.Statements.{as_number, as_truth, number, condition, target}
-use Rattle.word_laws.specs.Words.{IsWord64, AllWord64, HasWord64, AnswersWord64}
+use Rattle.run_inputs.specs.Inputs.{IsWord64, AllWord64}
+use Rattle.word_laws.specs.Words.{HasWord64, AnswersWord64}
 use Rattle.word_laws.proofs.Acts.{Keeps, Any, bind}
 
 abbrev pub Has : Value → Type 0

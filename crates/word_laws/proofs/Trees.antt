@@ -29,9 +29,10 @@ use Rattle.f77_semantics.specs.Resolve.{loop, term, terms, sites, optional, simp
 use Rattle.f77_semantics.specs.Source.{slot_named, meant_in, bound_of, dummy_array, dummy_arrays_from, is_main, routine}
 use Rattle.f77_semantics.proofs.Trees.{layer}
 use Rattle.word_laws.specs.Literals.{literal_step, has_word64, optional_has_word64, bound_has_word64, simple_has_word64, form_has_word64, unit_has_word64}
+use Rattle.run_inputs.proofs.Decided.{word}
 use Rattle.word_laws.proofs.Terms.{Has, TermHas, TermsHave, nought}
 use Rattle.word_laws.proofs.Turns.{OptionalHas, StatementHas, BoundHas, ArrayHas, RoutineHas}
-use Rattle.word_laws.proofs.Constants.{both, word, all_append, all_map, Each, MayBe, what_told, HasAll, constants_fit, ShapeFits, shapes_fit, initial_fits}
+use Rattle.word_laws.proofs.Constants.{both, all_append, all_map, Each, MayBe, what_told, HasAll, constants_fit, ShapeFits, shapes_fit, initial_fits}
 
 -- ---- names
 

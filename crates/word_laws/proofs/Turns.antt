@@ -21,7 +21,8 @@ use Rattle.f77_semantics.specs.declared.storage.Extent.{Extent}
 use Rattle.f77_semantics.specs.Expressions.{Frame, interval, scalar, actuals, fetch, store, value}
 use Rattle.f77_semantics.specs.Statements.{Here, as_number, number, condition, target, written, items, say_all, say_record, read_all, trips, set_loop, chosen, step_of, to, to_chosen, return, tested, perform, inner, advance, statement, turn_at, turn}
 use Rattle.f77_semantics.specs.Units.{is_cleared, cleared, entered, beginning, run_unit, lower_of, upper_of, bounds_of, positive, extents, product, filled, total, divide, dimensions, with_shape, entry}
-use Rattle.word_laws.specs.Words.{IsWord64, HasWord64, InWord64, AnswersWord64, EndsInWord64}
+use Rattle.run_inputs.specs.Inputs.{IsWord64}
+use Rattle.word_laws.specs.Words.{HasWord64, InWord64, AnswersWord64, EndsInWord64}
 use Rattle.word_laws.proofs.Acts.{Keeps, Any, bind, Ends, ends_then, play_keeps, AfterIs, turns_keep}
 use Rattle.word_laws.proofs.Terms.{Has, TermHas, TermsHave, stored_has, single, fetch_has, value_has, actuals_keep, as_number_has, number_has, condition_keeps, target_keeps}
 

@@ -1,6 +1,7 @@
--- Integers of 64 bits, and units whose literals are such.
-use Rattle.std.specs.Prelude.{◌^◌, List, Option, Some, None, Bool, true, ◌&&◌, ℤ, pos, negsuc, nat_lt}
+-- Units whose literals have 64 bits.
+use Rattle.std.specs.Prelude.{List, Option, Some, None, Bool, true, ◌&&◌}
 use Rattle.std.specs.List.{list_all}
+use Rattle.run_inputs.specs.Inputs.{is_word64}
 use Rattle.f77_tree.specs.declared.expr.Expr.{Expr, fold-Expr}
 use Rattle.f77_tree.specs.declared.expr.Expr.TheOpen.{Expr-F}
 use Rattle.f77_tree.specs.declared.form.DataConst.{DataConst}
@@ -8,11 +9,6 @@ use Rattle.f77_tree.specs.declared.form.Declarator.{Declarator}
 use Rattle.f77_tree.specs.declared.form.Form.{Form, out-Form}
 use Rattle.f77_tree.specs.declared.form.Form.TheOpen.{Form-F}
 use Rattle.f77_tree.specs.declared.unit.Unit.{Unit as SourceUnit}
-
--- from -2 ^ 63 to 2 ^ 63 - 1
-abbrev pub is_word64 : ℤ → Bool
-is_word64 (pos n) = nat_lt n (2 ^ 63)
-is_word64 (negsuc n) = nat_lt n (2 ^ 63)
 
 abbrev pub literal_step : Expr-F Bool → Bool
 literal_step (Expr-F.Int n) = is_word64 n

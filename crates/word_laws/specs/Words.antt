@@ -1,7 +1,7 @@
 -- Worlds whose integers have 64 bits, and that runs stay in such worlds.
-use Rattle.std.specs.Prelude.{◌≡◌, ℕ, List, [], Some, None, true, ℤ, FitsSigned, map, length}
-use Rattle.std.specs.Int.{w64}
-use Rattle.std.specs.List.{AllByRecursion, list_all}
+use Rattle.std.specs.Prelude.{◌≡◌, ℕ, List, [], Some, None, true, ℤ, map, length}
+use Rattle.std.specs.List.{list_all}
+use Rattle.run_inputs.specs.Inputs.{IsWord64, AllWord64}
 use Rattle.run_model.specs.Storage.{Value, Integer, Logical, Loc, Interval}
 use Rattle.run_model.specs.Acts.{World, Outcome, Fine, Stop, Answer}
 use Rattle.run_model.specs.Runs.{answer}
@@ -10,13 +10,6 @@ use Rattle.f77_values.specs.Tables.{Name}
 use Rattle.f77_semantics.specs.Units.{meaning, named, fresh_world}
 use Rattle.f77_semantics.specs.Source.{main_of, routine, Source}
 use Rattle.word_laws.specs.Literals.{unit_has_word64}
-
--- an integer of 64 bits in two's complement
-abbrev pub IsWord64 : ℤ → Type 0
-IsWord64 z = FitsSigned w64 z
-
-abbrev pub AllWord64 : List ℤ → Type 0
-AllWord64 zs = AllByRecursion IsWord64 zs
 
 -- a value of a cell
 abbrev pub HasWord64 : Value → Type 0

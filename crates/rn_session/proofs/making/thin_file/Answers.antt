@@ -2,6 +2,7 @@ use Rattle.std.proofs.Common.{◌≡◌, ℕ, ℤ, ◌+◌, ◌*◌, ◌≤◌, 
 use Rattle.std.specs.Prelude.{sum_by}
 use Rattle.thin_form.specs.declared.statement.Statement.{Statement}
 use Rattle.thin_form.specs.Programs.{size_of}
+use Rattle.run_inputs.specs.Inputs.{AllWord64}
 use Rattle.run_model.specs.Runs.{Run}
 use Rattle.f77_semantics.specs.Source as whole
 use Rattle.thin_code.specs.Meaning.{Source}
@@ -13,7 +14,7 @@ use Rattle.thin_meaning.specs.Laws.{TextsRunAlike}
 use Rattle.rn_session.proofs.making.thin_file.Goals as goal
 
 within_more : (file : List ℕ) (most more : ℕ) → most ≤ more → EndsWithin file most → EndsWithin file more
-within_more file most more l h = λ input s loads m n. h input s loads m (omega arith)
+within_more file most more l h = λ input words s loads m n. h input words s loads m (omega arith)
 
 -- a thin text means what its units do
 meant : TextsRunAlike → (bytes : List ℕ) (body : List Statement) (text : IsThinText bytes body) → Source body ≡ whole.Source text.trees
@@ -29,8 +30,8 @@ returns-in-Ok-note-clause-file g c =
     record {
       body = body;
       text = read.text.text;
-      orderly = subst (λ (meaning : List ℤ → ℕ → Run). (input : List ℤ) (n : ℕ) → IsOrderly (meaning input n)) same
-          (subst (λ (b : List Statement). (input : List ℤ) (n : ℕ) → IsOrderly (Source b input n)) c.as_slice.ensures c.program_file.ensures.orderly);
+      orderly = subst (λ (meaning : List ℤ → ℕ → Run). (input : List ℤ) → AllWord64 input → (n : ℕ) → IsOrderly (meaning input n)) same
+          (subst (λ (b : List Statement). (input : List ℤ) → AllWord64 input → (n : ℕ) → IsOrderly (Source b input n)) c.as_slice.ensures c.program_file.ensures.orderly);
       agrees = subst (λ (meaning : List ℤ → ℕ → Run). Agrees meaning (steps_each body) (words_each body) c.in-Ok-program_file.file.items) same
           (subst (λ (b : List Statement). Agrees (Source b) (steps_each b) (words_each b) c.in-Ok-program_file.file.items) c.as_slice.ensures made.agrees);
       bound = within_more c.in-Ok-program_file.file.items (64 + 32 * sum_by size_of body) (64 + 32 * text_bytes read.text.text.units) (omega (arith, size))

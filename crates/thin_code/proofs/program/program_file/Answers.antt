@@ -16,4 +16,4 @@ pub returns-clause-bound : goal.returns-clause-bound
 returns-clause-bound c = if_ok c.linked.result (λ file e. subst (λ bytes. EndsWithin bytes (64 + 32 * sum_by size_of c.args.body.now)) (sym e) (bounded c.args.body.now c.requires.program c.requires.small)) c.linked.ensures
 
 pub returns-clause-orderly : goal.returns-clause-orderly
-returns-clause-orderly c = orderly c.args.body.now c.requires.program
+returns-clause-orderly c = λ input words n. orderly c.args.body.now c.requires.program input n
