@@ -1,0 +1,5 @@
+use Rattle.area_laws.proofs.Programs.{runs_stay}
+use Rattle.area_laws.proofs.areas_law.Goals as goal
+
+pub returns : goal.returns
+returns c = record { stays = runs_stay }

@@ -1,0 +1,47 @@
+-- The areas of a program and their sizes (ANSI X3.9-1978, sections 8.3 and 17.1): the local area of each unit, each COMMON block at its
+-- largest, and a storage unit for each actual that a site may pass.
+use Rattle.std.specs.Prelude.{ℕ, zero, suc, ◌+◌, ◌<◌, ◌≤◌, Option, Some, None, List, if◌then◌else◌, nat_lt}
+use Rattle.std.specs.List.{find}
+use Rattle.run_model.specs.Storage.{Area, Block, Local, Fresh, Loc, Interval}
+use Rattle.f77_tree.specs.declared.unit.Unit.{Unit as SourceUnit}
+use Rattle.f77_values.specs.Tables.{Name, name_eq}
+use Rattle.f77_store.specs.Layouts.{local_size}
+use Rattle.f77_semantics.specs.Program.{Terms, End, ◌and◌}
+use Rattle.prog_check.specs.Limits.{all_blocks, largest}
+use Rattle.sound_units.specs.Sites.{site_at}
+use Rattle.sound_units.specs.Units.{passed, actuals_at}
+
+abbrev pub unit_named : List SourceUnit → Name → Option SourceUnit
+unit_named units name = find (λ u. name_eq u.name name) units
+
+abbrev pub count : Terms → ℕ
+count End = 0
+count (e and es) = suc (count es)
+
+-- How many actuals a site passes. Site 0, which is none, has the cell of a dummy without an actual.
+abbrev pub passes : SourceUnit → ℕ → ℕ
+passes u zero = 1
+passes u (suc s) = count (actuals_at (site_at (passed u) (suc s)))
+
+abbrev pub local_units : Option SourceUnit → ℕ
+local_units None = 0
+local_units (Some u) = local_size u
+
+abbrev pub fresh_units : Option SourceUnit → (site position : ℕ) → ℕ
+fresh_units None s j = 0
+fresh_units (Some u) s j = if nat_lt j (passes u s) then 1 else 0
+
+-- the number of storage units of an area
+abbrev pub area_size : List SourceUnit → Area → ℕ
+area_size units (Block b) = largest (all_blocks units) b
+area_size units (Local v) = local_units (unit_named units v)
+area_size units (Fresh v s j) = fresh_units (unit_named units v) s j
+
+-- a location before the end of its area
+abbrev pub InArea : List SourceUnit → Loc → Type 0
+InArea units l = l.offset < area_size units l.area
+
+-- an interval that ends by the end of its area, and has a location
+pub record Inside (units : List SourceUnit) (i : Interval) : Type 0 where
+  pub some : 1 ≤ i.length
+  pub ends : i.from + i.length ≤ area_size units i.area
