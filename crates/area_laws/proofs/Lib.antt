@@ -6,3 +6,6 @@ pub mod Limits
 pub mod Texts
 pub mod Slots
 pub mod Programs
+pub mod Finite
+pub mod Keeping
+pub mod Defined

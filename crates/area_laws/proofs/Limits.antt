@@ -72,7 +72,7 @@ among_le f (n ∷ names) b h = go (name_eq b n) refl h (among_le f names b)
     go false t h rest = let e = sum_by-cons f n names in let r = rest h in omega (arith, e, r)
 
 -- A block that no unit has takes no storage.
-largest_zero : (b : Name) (xs : List (Name × ℕ)) (n : ℕ) → list_any (λ (x : Name × ℕ). name_eq b x.0) xs ≡ false → fold (larger b) n xs ≡ n
+pub largest_zero : (b : Name) (xs : List (Name × ℕ)) (n : ℕ) → list_any (λ (x : Name × ℕ). name_eq b x.0) xs ≡ false → fold (larger b) n xs ≡ n
 largest_zero b [] n h = refl
 largest_zero b (x ∷ xs) n h = go (name_eq b x.0) refl h (largest_zero b xs n)
   where
@@ -87,7 +87,7 @@ largest_zero b (x ∷ xs) n h = go (name_eq b x.0) refl h (largest_zero b xs n)
     go true t h rest = contra h
     go false t h rest = ap (λ s. fold (larger b) (if s then max n x.1 else n) xs) (flipped (name_eq x.0 b) refl t) ∙ rest h
 
-any_names : (b : Name) (xs : List (Name × ℕ)) → list_any (λ (x : Name × ℕ). name_eq b x.0) xs ≡ true → is_among (map (λ (x : Name × ℕ). x.0) xs) b ≡ true
+pub any_names : (b : Name) (xs : List (Name × ℕ)) → list_any (λ (x : Name × ℕ). name_eq b x.0) xs ≡ true → is_among (map (λ (x : Name × ℕ). x.0) xs) b ≡ true
 any_names b [] h = h
 any_names b (x ∷ xs) h = go (name_eq b x.0) h (any_names b xs)
   where

@@ -48,7 +48,7 @@ module _ (units : List SourceUnit) (main : SourceUnit) (x : IsProgram units main
   program = named (map routine units) (routine main)
 
   module _ (k : ℕ) (u : SourceUnit) (stands : slice_get units k ≡ Some u) where
-    known : unit_named units u.name ≡ Some u
+    pub known : unit_named units u.name ≡ Some u
     known = only_named units k u stands (λ j v s e. x.differ j k v u s stands e)
 
     unit_ok : UnitOk (routine u) (effects u)

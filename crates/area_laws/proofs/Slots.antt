@@ -8,14 +8,19 @@ use Rattle.f77_names.specs.declared.roles.Role.{Role}
 use Rattle.f77_names.specs.declared.roles.Role.TheVariants as roles
 use Rattle.f77_names.specs.Declarations.{declarations}
 use Rattle.f77_names.specs.Occurrences.{occurrences}
-use Rattle.f77_names.specs.Roles.{facts, role, known, in_order, names}
+use Rattle.f77_names.specs.Roles.{facts, bounds_of, constant_of, is_intrinsic, is_function, role, known, in_order, names}
 use Rattle.f77_store.specs.declared.areas.Place.{Place}
 use Rattle.f77_store.specs.declared.storage.Area.{Area}
 use Rattle.f77_store.specs.declared.storage.Area.TheVariants.{Dummy, Local, Common}
 use Rattle.f77_store.specs.declared.storage.Slot.{Slot}
 use Rattle.f77_store.specs.Areas.{size_of, commons}
 use Rattle.f77_store.specs.Layouts.{is_array, is_variable, is_dummy, dummy_slot, own_slot, slot_of, common_places, local_places, slots, local_size, blocks}
-use Rattle.f77_semantics.specs.Terms.{base_at, base_of, intrinsic_meant, meant_as}
+use Rattle.f77_semantics.specs.Terms.{Meant, AnArray, base_at, base_of, extent_of, bounds_at, intrinsic_meant, meant_as}
+use Rattle.f77_tree.specs.declared.unit.Value.{Value}
+use Rattle.f77_values.specs.Sizes.{Bounds as DeclaredBounds}
+use Rattle.f77_semantics.specs.declared.storage.Bounds.{Bounds}
+use Rattle.f77_semantics.specs.declared.storage.Bounds.TheVariants.{Known, AtEntry}
+use Rattle.f77_semantics.specs.Units.{total}
 use Rattle.f77_semantics.specs.Source.{slot_named}
 use Rattle.f77_check.specs.UnitFaults.{IsSound}
 use Rattle.prog_check.specs.Limits.{all_blocks, largest}
@@ -46,6 +51,32 @@ found (x ∷ all) name s e = go (name_eq name x.name) refl e (found all name s)
     go : (b : Bool) → name_eq name x.name ≡ b → cond b (Some x) (slot_named all name) ≡ Some s → (slot_named all name ≡ Some s → Found all name s) → Found (x ∷ all) name s
     go true t e rest = record { at = 0; stands = e; name_is = same_name name x.name t ∙ ap (λ (x : Slot). x.name) (some_is x s e) }
     go false t e rest = let r = rest e in record { at = suc r.at; stands = r.stands; name_is = r.name_is }
+
+-- known bounds have no more elements than the array has units
+abbrev pub Sized : Bounds → ℕ → Type 0
+Sized (Known es) n = total es ≤ n
+Sized (AtEntry k) n = Unit {0}
+
+abbrev pub SizedIn : Meant → Type 0
+SizedIn (AnArray ty a) = Sized a.bounds a.length
+SizedIn _ = Unit {0}
+
+-- the bounds in a role are those that are told
+role_bounds : (array constant intrinsic function called external : Bool) (told bounds : DeclaredBounds) (v : Value)
+    → (if array then roles.Array told
+    else (if constant then roles.Constant v
+    else (if intrinsic then roles.Intrinsic
+    else (if function then roles.Function
+    else (if called then roles.Subroutine
+    else (if external then roles.Procedure
+    else roles.Scalar)))))) ≡ roles.Array bounds → told ≡ bounds
+role_bounds true c i f d x told bounds v e = cc
+role_bounds false true i f d x told bounds v e = cc
+role_bounds false false true f d x told bounds v e = cc
+role_bounds false false false true d x told bounds v e = cc
+role_bounds false false false false true x told bounds v e = cc
+role_bounds false false false false false true told bounds v e = cc
+role_bounds false false false false false false told bounds v e = cc
 
 module _ (units : List SourceUnit) (place : ℕ) (u : SourceUnit) (stands : slice_get units place ≡ Some u) (sound : IsSound u) (text : IsTextOf u) (local_counted : local_size u < most) (block_counted : (b : Name) → largest (all_blocks units) b < most) where
   abbrev f : Facts
@@ -128,6 +159,44 @@ module _ (units : List SourceUnit) (place : ℕ) (u : SourceUnit) (stands : slic
       go (roles.Array bounds) e (Some s) h = let x = found (slots u) name s h in slot_in x.at s x.stands
       go (roles.Array bounds) e None h = tt
       go roles.Scalar e (Some s) h = scalar_in s e h
+      go roles.Scalar e None h = tt
+      go roles.Subroutine e o h = tt
+      go roles.Procedure e o h = tt
+
+  -- An array with known bounds has a storage unit for each of its elements.
+  pub meant_sized : (name : Name) → SizedIn (meant_of u name)
+  meant_sized name = go (role f name) refl (slot_named (slots u) name) refl
+    where
+      intrinsic_sized : (o : _) → SizedIn (intrinsic_meant o)
+      intrinsic_sized None = tt
+      intrinsic_sized (Some i) = tt
+
+      told_is : (bounds : DeclaredBounds) → role f name ≡ roles.Array bounds → bounds_of (what f.shapes name) ≡ bounds
+      told_is bounds e =
+          role_bounds (is_among f.attributes.arrays name) (is_among f.attributes.constants name) (is_intrinsic f.attributes name) (is_function f.attributes name) (is_among f.attributes.called name) (is_among f.attributes.external name)
+          (bounds_of (what f.shapes name)) bounds (constant_of (what f.constants name)) e
+
+      fits : (bounds : DeclaredBounds) (s : Slot) → role f name ≡ roles.Array bounds → slot_named (slots u) name ≡ Some s → IsStored s.area → total (map (extent_of f.constants) bounds) ≤ s.size
+      fits bounds s r e stored =
+          let x = found (slots u) name s e in
+          let y = of_name x.at s x.stands in
+          let h = (array_size u sound text s.name (y.own stored)).1 in
+          let z = y.size stored in
+          let t : total (map (extent_of f.constants) (bounds_of (what f.shapes s.name))) ≡ total (map (extent_of f.constants) bounds) = ap (λ n. total (map (extent_of f.constants) (bounds_of (what f.shapes n)))) (sym x.name_is) ∙ ap (λ b. total (map (extent_of f.constants) b)) (told_is bounds r) in
+          omega (arith, h, z, t)
+
+      at_area : (bounds : DeclaredBounds) (s : Slot) → role f name ≡ roles.Array bounds → slot_named (slots u) name ≡ Some s → (a : Area) → s.area ≡ a → Sized (bounds_at f.constants bounds a) s.size
+      at_area bounds s r e (Dummy k) is = tt
+      at_area bounds s r e Local is = fits bounds s r e (subst IsStored (sym is) tt)
+      at_area bounds s r e (Common b) is = fits bounds s r e (subst IsStored (sym is) tt)
+
+      go : (r : Role) → role f name ≡ r → (o : Option Slot) → slot_named (slots u) name ≡ o → SizedIn (meant_as f.constants name r o)
+      go (roles.Constant v) e o h = tt
+      go roles.Intrinsic e o h = intrinsic_sized _
+      go roles.Function e o h = tt
+      go (roles.Array bounds) e (Some s) h = at_area bounds s e h s.area refl
+      go (roles.Array bounds) e None h = tt
+      go roles.Scalar e (Some s) h = tt
       go roles.Scalar e None h = tt
       go roles.Subroutine e o h = tt
       go roles.Procedure e o h = tt

@@ -8,6 +8,9 @@
 //! - `stays` of `areas_law`: on every input, for every number of steps, the run that `Source` tells of touches no
 //!   location at or past the end of its area, and each interval that it passes ends by the end of its area and has a
 //!   location.
+//! - `defined`: each location that has a value after a run, of whatever length, lies before the end of its area; what
+//!   DATA gives does too.
+//! - `finite`: these are among finitely many (`Areas.locations`), for every list of units.
 //!
 //! How it goes. A tree of acts stays (`proofs/Stays`) whatever it reads and is answered, so what is shown of a turn
 //! holds in every run. The terms of a unit stand for slots, which lie within their areas (`proofs/Texts`, by
@@ -16,9 +19,12 @@
 //! it is no array; and the entry leaves a dummy array's bounds no larger than its actual (`proofs/Turns`).
 #![tactic(auto)]
 
-ghost use Rattle.area_laws.specs.Laws.{RunsStayInAreas};
+ghost use Rattle.area_laws.specs.Laws.{AreasAreFinite, RunsStayInAreas, ValuesLieInAreas};
 
-/// The run of an accepted program touches no location at or past the end of its area, and passes no interval that ends past it.
+/// The run of an accepted program touches no location at or past the end of its area, and passes no interval that ends past it. So the
+/// locations that ever have a value are among finitely many.
 pub fn areas_law()
     ensures stays { RunsStayInAreas }
+    ensures defined { ValuesLieInAreas }
+    ensures finite { AreasAreFinite }
 {}
