@@ -23,7 +23,7 @@ use Rattle.f77_semantics.specs.Sites.{refers, FunctionsAgree}
 use Rattle.f77_semantics.specs.Terms.{meant_as, intrinsic_meant}
 use Rattle.sound_units.specs.Units.{meant_of}
 use Rattle.check_names.specs.declared.attribute.Attribute.{Attribute}
-use Rattle.check_names.specs.declared.attribute.Attribute.TheVariants.{Array, Constant, Subroutine, Procedure, Intrinsic, Function}
+use Rattle.check_names.specs.declared.attribute.Attribute.TheVariants.{Array, Constant, Subroutine, Intrinsic, Function}
 use Rattle.check_names.specs.declared.attribute.Given.{Given}
 use Rattle.check_names.specs.Exclusions.{nothing, has, is_excluded}
 use Rattle.check_names.specs.Givings.{by_form, by_manner, by_occurrence}

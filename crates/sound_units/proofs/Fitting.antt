@@ -74,7 +74,7 @@ use Rattle.sound_units.proofs.Lists.{or_left, or_right, any-append, untrue}
 use Rattle.sound_units.proofs.Manners.{definitions_in, defines, defined_here}
 use Rattle.sound_units.proofs.Opening.{opens}
 use Rattle.sound_units.proofs.Parameters.{Named, DefinitionsChecked, before_statement, values_are, defined_behind, constants_known}
-use Rattle.sound_units.proofs.Shaping.{declarators_in, in_blocks, shape_under, Tells, shape_is, holds_all}
+use Rattle.sound_units.proofs.Shaping.{declarators_in, in_blocks, shape_under, Tells, shape_is, holds_all, holds_some}
 use Rattle.sound_units.proofs.Slots.{names_so, commons_of, locals_of, slot_for, slot_is, slot_type}
 use Rattle.sound_units.proofs.Tables.{name_self, opposite, each_of, each_at, each_both, each_map, none_of, any_here, any_flat, known, distinct_among, names_among}
 use Rattle.sound_units.proofs.Typing.{typed}
@@ -402,9 +402,9 @@ module _ (u : SourceUnit) (sound : IsSound u) (text : IsTextOf u) where
 
   -- ---- arrays
 
-  -- a shape has a storage unit for each element of an array that is no dummy
+  -- a shape has a storage unit for each element of an array that is no dummy, and it has at least one
   abbrev Holds : Name × Shape → Type 0
-  Holds p = is_among a.dummies p.0 ≡ false → total_of (map (extent_of f.constants) p.1.bounds) ≤ unwrap_or p.1.size 0
+  Holds p = is_among a.dummies p.0 ≡ false → (1 ≤ total_of (map (extent_of f.constants) p.1.bounds)) × (total_of (map (extent_of f.constants) p.1.bounds) ≤ unwrap_or p.1.size 0)
 
   pub declared_lacks : (d : Defined) (F : Form-F Form) → form_lacks f (in_commons u) d F ≡ false → list_any (declarator_lacks f (in_commons u) d) (declarators_in F) ≡ false
   declared_lacks d (Form-F.Typed ty all) h = h
@@ -438,8 +438,10 @@ module _ (u : SourceUnit) (sound : IsSound u) (text : IsTextOf u) where
       let exponents : list_any (bound_breaks f before_it.values Exponents) d.bounds ≡ false = subst (λ named. list_any (bound_breaks f named Exponents) d.bounds ≡ false) (sym is) w in
       let fits : total_of (map (extent_of f.constants) d.bounds) ≤ unwrap_or (option_map saturated (elements before_it.values d.bounds)) 0 =
       holds_all f (in_commons u) before_it (known_at k) f.constants (keeps_defined k) d.bounds lacks t exponents
-      (λ n e. small n (subst (λ o. (exceeds o && not (is_among a.dummies d.name)) ≡ false) (sym (ap (λ named. elements named d.bounds) is) ∙ e) l)) in
-      subst (λ named. total_of (map (extent_of f.constants) d.bounds) ≤ unwrap_or (option_map saturated (elements named d.bounds)) 0) is fits
+      (λ n e. small n (subst (λ o. (exceeds o && not (is_among a.dummies d.name)) ≡ false) (sym (ap (λ named. elements named d.bounds) is) ∙ e) l)) in (
+        holds_some f (in_commons u) before_it (known_at k) f.constants (keeps_defined k) d.bounds lacks t exponents,
+        subst (λ named. total_of (map (extent_of f.constants) d.bounds) ≤ unwrap_or (option_map saturated (elements named d.bounds)) 0) is fits,
+      )
     where
       small : (n : ℕ) → (nat_lt 16777216 n && not (is_among a.dummies d.name)) ≡ false → nat_lt 16777216 n ≡ false
       small n h = go (nat_lt 16777216 n) (is_among a.dummies d.name) h own
@@ -467,12 +469,13 @@ module _ (u : SourceUnit) (sound : IsSound u) (text : IsTextOf u) where
   abbrev bounds_for : Name → Bounds
   bounds_for name = bounds_of (what f.shapes name)
 
-  -- a shape that isn't told is that of one element
-  array_size : (name : Name) → is_among a.dummies name ≡ false → total_of (map (extent_of f.constants) (bounds_for name)) ≤ size_of f.shapes name
+  -- A shape that isn't told is that of one element.
+  pub array_size : (name : Name) → is_among (facts u).attributes.dummies name ≡ false
+      → (1 ≤ total_of (map (extent_of (facts u).constants) (bounds_of (what (facts u).shapes name)))) × (total_of (map (extent_of (facts u).constants) (bounds_of (what (facts u).shapes name))) ≤ size_of (facts u).shapes name)
   array_size name own = go (what f.shapes name) refl
     where
-      go : (o : Option Shape) → what f.shapes name ≡ o → total_of (map (extent_of f.constants) (bounds_of o)) ≤ units_of o
-      go None e = omega arith
+      go : (o : Option Shape) → what f.shapes name ≡ o → (1 ≤ total_of (map (extent_of f.constants) (bounds_of o))) × (total_of (map (extent_of f.constants) (bounds_of o)) ≤ units_of o)
+      go None e = (omega arith, omega arith)
       go (Some shape) e = shape_holds name shape e own
 
   array_place : (name : Name) (o : Option Place) (from : ℕ) (slot : Slot) → base_of slot ≡ base_at (common_area o) from → slot.area ≡ common_area o → total_of (map (extent_of f.constants) (bounds_for name)) ≤ slot.size → ArrayOk S (array_of f.constants (bounds_for name) slot)
@@ -481,7 +484,7 @@ module _ (u : SourceUnit) (sound : IsSound u) (text : IsTextOf u) where
 
   array_fits : (name : Name) → role_of f name ≡ role.Array (bounds_for name) → (d : Bool) → is_among a.dummies name ≡ d → ArrayOk S (array_of f.constants (bounds_for name) (slot_by d name))
   array_fits name is true h = (refl, array_at name h ∙ ap is_array is)
-  array_fits name is false h = array_place name (what (commons_of u) name) _ (own_slot f (commons_of u) (locals_of u) (known_as f name)) refl refl (array_size name h)
+  array_fits name is false h = array_place name (what (commons_of u) name) _ (own_slot f (commons_of u) (locals_of u) (known_as f name)) refl refl (array_size name h).1
 
   array_stands : (name : Name) → Occurs name → is_among a.arrays name ≡ true → StandsForArray f meant S name
   array_stands name x h =

@@ -107,7 +107,7 @@ module _ (units : List SourceUnit) (good : AllAreGood units) (differ : NamesDiff
   quiet : (c : Check) (k : ℕ) (u : SourceUnit) → slice_get units k ≡ Some u → (at : ℕ) (m : Mention) → slice_get (mentions u) at ≡ Some m → shows c (signatures units) m ≡ false
   quiet c k u s at m e = untrue (shows c (signatures units) m) (λ h. accepted.none (mark_at (number_of c) 0 (Some k) (line_of m)) (of_calls (by_text (text c (record { place = k; unit = u; stands = s; at = at; mention = m; says = e; holds = h; mark_is = refl })))))
 
-  no_procedure : (k : ℕ) (u : SourceUnit) → slice_get units k ≡ Some u → PassesNoProcedure u
+  pub no_procedure : (k : ℕ) (u : SourceUnit) → slice_get units k ≡ Some u → PassesNoProcedure u
   no_procedure k u s = untrue (list_any passing (mentions u)) (λ h.
       let x : OneOf passing (mentions u) = one_of passing (mentions u) h in
       let no : shows check.Procedure (signatures units) x.one ≡ false = quiet check.Procedure k u s x.at x.one x.stands in
@@ -117,7 +117,7 @@ module _ (units : List SourceUnit) (good : AllAreGood units) (differ : NamesDiff
       contra : false ≡ true → ⊥
       contra e = cc
 
-  sound_unit : (k : ℕ) (u : SourceUnit) → slice_get units k ≡ Some u → UnitOk (routine u) (effects u)
+  pub sound_unit : (k : ℕ) (u : SourceUnit) → slice_get units k ≡ Some u → UnitOk (routine u) (effects u)
   sound_unit k u s = let g : IsGood u = good k u s in unit_ok u g.sound g.text (no_procedure k u s) (names_fit u g.sound g.text (no_procedure k u s))
 
   no_cycle : (place at : ℕ) → LeadsBack (rows units) place at → ⊥

@@ -1,7 +1,9 @@
 -- The bounds and sizes of arrays, from their declarators.
-use Rattle.std.proofs.Common.{◌≡◌, ℕ, suc, ◌+◌, ◌*◌, ◌==◌, ◌≤◌, Bool, true, false, not, ◌||◌, nat_lt, ℤ, pos, Option, Some, None, List, [], ◌∷◌, length, map, flat_map, fold, take, slice_get, option_map, unwrap_or, refl, sym, ap, ◌∙◌, subst, arith, if◌then◌else◌}
+use Rattle.std.proofs.Common.{◌≡◌, ℕ, suc, ◌+◌, ◌*◌, ◌==◌, ◌≤◌, Bool, true, false, not, ◌||◌, nat_lt, int_lt, int_le, unsigned_abs, ℤ, pos, ◌-ℤ◌, Option, Some, None, List, [], ◌∷◌, length, map, flat_map, fold, take, slice_get, option_map, unwrap_or, refl, sym, ap, ◌∙◌, subst, arith, if◌then◌else◌}
 use Rattle.std.specs.List.{list_any}
+use Rattle.std.proofs.Math.Nat.{le-mul_of_pos_right}
 use Rattle.std.proofs.lemmas.Bool.Decides.{nat_tests}
+use Rattle.std.proofs.lemmas.Int.{ints}
 use Rattle.std.proofs.lemmas.Grind.{flat_map-append}
 use Rattle.std.proofs.lemmas.List.Sums.{fold-append}
 use Rattle.f77_tree.specs.declared.expr.Expr.{Expr}
@@ -25,7 +27,7 @@ use Rattle.check_types.specs.Breaks.{optional_breaks, bound_breaks}
 use Rattle.check_types.specs.Exponents.{has_wrong_exponent}
 use Rattle.check_types.specs.WrongTypes.{differs, integers, is_mistyped}
 use Rattle.check_constants.specs.declared.defined.Defined.{Defined}
-use Rattle.check_constants.specs.Needed.{is_constant, is_no_constant, lower_lacks, upper_lacks, bound_lacks, bounds_lack}
+use Rattle.check_constants.specs.Needed.{is_constant, is_no_constant, reversed, lower_lacks, upper_lacks, bound_lacks, bounds_lack}
 use Rattle.f77_semantics.specs.Terms.{extent_of}
 use Rattle.f77_semantics.specs.Units.{total}
 use Rattle.sound_units.specs.Sites.{Each}
@@ -110,6 +112,7 @@ module _ (Q : Name × Shape → Type 0) where
 -- a dimension whose bounds are constant where it stands and in the whole unit
 record Measured (named all : Told Value) (b : Option Expr × Option Expr) : Type 0 where
   size : ℕ
+  some : 1 ≤ size
   here : extent named b ≡ Some size
   there : extent all b ≡ Some size
 
@@ -117,6 +120,20 @@ record Whole (named all : Told Value) (e : Expr) : Type 0 where
   number : ℤ
   here : whole (value_of named e) ≡ Some number
   there : whole (value_of all e) ≡ Some number
+
+-- A span that isn't reversed has a place at least.
+span_some : (low high : ℤ) → int_lt high low ≡ false → 1 ≤ span low high
+span_some low high h = let forward : int_le low high ≡ true = grind (arith, ints, h) in subst (λ b. 1 ≤ (if b then unsigned_abs (high -ℤ low) + 1 else 0)) (sym forward) (omega arith)
+
+product_some : (named all : Told Value) (bounds : Bounds) → Each (Measured named all) bounds → 1 ≤ total (map (extent_of all) bounds)
+product_some named all [] h = omega arith
+product_some named all (b ∷ bounds) h =
+    let x : Measured named all b = h.0 in
+    let size_is : x.size ≡ (extent_of all b).size = sym (ap (λ o. unwrap_or o 0) x.there) in
+    let rest : 1 ≤ total (map (extent_of all) bounds) = product_some named all bounds h.1 in
+    let more : x.size ≤ x.size * total (map (extent_of all) bounds) = le-mul_of_pos_right x.size rest in
+    let one = x.some in
+    subst (λ n. 1 ≤ n * total (map (extent_of all) bounds)) size_is (omega (arith, one, more))
 
 multiplied : (named all : Told Value) (bounds : Bounds) (m : ℕ) → Each (Measured named all) bounds → fold (λ size bound. times size (extent named bound)) (Some m) bounds ≡ Some (m * total (map (extent_of all) bounds))
 multiplied named all [] m h = let e : m ≡ m * 1 = omega arith in ap Some e
@@ -154,7 +171,8 @@ module _ (f : Facts) (commons_at : Told Place) (d : Defined) (known : (name : Na
   bound_measured last b c t w =
       let low = lower_whole b.0 (or_left (lower_lacks f commons_at d false b.0) _ c) (or_left (optional_breaks f f.constants Types integers b.0) _ t) (or_left (optional_breaks f d.values Exponents integers b.0) _ w) in
       let high = upper_whole last b.1 (or_left (upper_lacks f commons_at d false last b.1) _ (or_right (lower_lacks f commons_at d false b.0) _ c)) (or_right (optional_breaks f f.constants Types integers b.0) _ t) (or_right (optional_breaks f d.values Exponents integers b.0) _ w) in
-      record { size = span low.0 high.0; here = λ i. between (low.1 i) (high.1 i); there = λ i. between (low.2 i) (high.2 i) }
+      let forward : reversed (lower d.values b.0) (upper d.values b.1) ≡ false = or_right (upper_lacks f commons_at d false last b.1) _ (or_right (lower_lacks f commons_at d false b.0) _ c) in
+      record { size = span low.0 high.0; some = span_some low.0 high.0 (sym (λ i. reversed (low.1 i) (high.1 i)) ∙ forward); here = λ i. between (low.1 i) (high.1 i); there = λ i. between (low.2 i) (high.2 i) }
 
   all_measured : (bounds : Bounds) → bounds_lack f commons_at d false bounds ≡ false → list_any (bound_breaks f f.constants Types) bounds ≡ false → list_any (bound_breaks f d.values Exponents) bounds ≡ false → Each (Measured d.values all) bounds
   all_measured [] c t w = tt
@@ -162,6 +180,10 @@ module _ (f : Facts) (commons_at : Told Place) (d : Defined) (known : (name : Na
     bound_measured (length bounds == 0) b (or_left (bound_lacks f commons_at d false (length bounds == 0) b) _ c) (or_left (bound_breaks f f.constants Types b) _ t) (or_left (bound_breaks f d.values Exponents b) _ w),
     all_measured bounds (or_right (bound_lacks f commons_at d false (length bounds == 0) b) _ c) (or_right (bound_breaks f f.constants Types b) _ t) (or_right (bound_breaks f d.values Exponents b) _ w),
   )
+
+  -- It has at least one element.
+  pub holds_some : (bounds : Bounds) → bounds_lack f commons_at d false bounds ≡ false → list_any (bound_breaks f f.constants Types) bounds ≡ false → list_any (bound_breaks f d.values Exponents) bounds ≡ false → 1 ≤ total (map (extent_of all) bounds)
+  holds_some bounds c t w = product_some d.values all bounds (all_measured bounds c t w)
 
   small : (n : ℕ) → nat_lt 16777216 n ≡ false → n ≤ unwrap_or (option_map saturated (Some n)) 0
   small n h = let l : n ≤ 16777216 = grind (arith, nat_tests) in omega (arith, l)
