@@ -1,14 +1,15 @@
 -- What serves under a wide record serves under a narrower one.
-use Rattle.std.proofs.Common.{ℕ, List, [], ◌∷◌, refl, inl, inr, ⊎_elim}
+use Rattle.std.proofs.Common.{◌≡◌, ℕ, List, [], ◌∷◌, refl, inl, inr, ⊎_elim, subst}
+use Rattle.std.proofs.Math.Path.{fun_ext}
 use Rattle.run_model.specs.Storage.{Loc}
 use Rattle.run_model.specs.Acts.{World, Handler}
 use Rattle.run_calls.specs.Calls.{Call, Each}
 use Rattle.run_calls.proofs.Ends.{if_map}
 use Rattle.run_records.specs.Records.{Association, Record, IsChanged, IsReadThrough, StandsIn, IsEntry}
-use Rattle.run_records.specs.Rows.{Row, Results, Ends, GoesOn, Fails, IsBound, Respects}
+use Rattle.run_records.specs.Rows.{Row, Results, Ends, GoesOn, Fails, IsRow, IsBound, Respects}
 use Rattle.run_records.specs.Serving.{SameCalls}
 use Rattle.run_records.specs.Widest.{AsWide, widest}
-use Rattle.run_records.specs.Laws.{Narrows, WidestAllowsAll, WidestServesAll}
+use Rattle.run_records.specs.Laws.{WidestIsKept, Narrows, WidestAllowsAll, WidestServesAll}
 
 bound_map : (P Q : Loc → Type 0) → ((l : Loc) → P l → Q l) → (row : Row) → IsBound P row → IsBound Q row
 bound_map P Q f (Results r ch printed input left) b = λ l c e. f l (b l c e)
@@ -60,3 +61,19 @@ widest_allows = record { read = λ place s l x own. refl; changed = λ place s l
 pub widest_serves : WidestServesAll
 widest_serves associate r a b pairs p =
     narrows associate r widest a b (record { mods = λ site x e. refl; refs = λ site x e. refl; pairs = pairs; constants = λ x c e. absurd (cc) }) p
+
+pub widest_is_kept : WidestIsKept
+widest_is_kept place h c row is = record {
+  row = row;
+  bound = all_bound row;
+  same = λ v p. subst (λ v. IsRow row v (h c.site c.actuals v)) (same_world v p) is;
+}
+  where
+    all_bound : (row : Row) → IsBound (IsChanged widest place c.site) row
+    all_bound (Results r ch printed input left) = λ l d e x own. refl
+    all_bound (Ends k printed input left) = tt
+    all_bound (GoesOn printed input left) = tt
+    all_bound (Fails k printed) = tt
+
+    same_world : (v : World) → StandsIn widest place c.site c.world v → c.world ≡ v
+    same_world v p = λ i. record { cells = fun_ext (λ l. p.cells l (λ x own. refl)) i; out = p.out i; input = p.input i; left = p.left i }

@@ -7,7 +7,7 @@ use Rattle.run_calls.specs.Calls.{Call, Each}
 use Rattle.run_calls.specs.Same.{SameRun, IfDefined}
 use Rattle.run_calls.specs.Behaviours.{Behaviour, DependsOnItsCalls}
 use Rattle.run_records.specs.Records.{Association, Record, IsReadThrough, IsChanged, StandsIn, IsEntry}
-use Rattle.run_records.specs.Rows.{Respects}
+use Rattle.run_records.specs.Rows.{Row, IsRow, Respects}
 use Rattle.run_records.specs.Serving.{Serves}
 use Rattle.run_records.specs.Oracles.{ServesByRows}
 use Rattle.run_records.specs.Widest.{AsWide, may_pair, widest}
@@ -43,6 +43,10 @@ CalleesMayChange = (associate : List Interval → Association) (r : Record) (a b
 pub record WidestAllowsAll : Type 0 where
   pub read : (place : Association) (s : ℕ) (l : Loc) → IsReadThrough widest place s l
   pub changed : (place : Association) (s : ℕ) (l : Loc) → IsChanged widest place s l
+
+-- Each call that answers some row keeps to the widest record.
+abbrev pub WidestIsKept : Type 0
+WidestIsKept = (place : Association) (h : Handler) (c : Call) (row : Row) → IsRow row c.world (h c.site c.actuals c.world) → Respects widest place h c
 
 -- A record that pairs nothing but dummies with dummies and with units of COMMON.
 abbrev pub PairsDummies : Record → Type 0

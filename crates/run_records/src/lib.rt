@@ -11,7 +11,7 @@
 //! - `Laws`: what the functions below say.
 #![tactic(auto)]
 
-ghost use Rattle.run_records.specs.Laws.{CalleesMayChange, Composes, GivesRows, Narrows, ServesItself, WidestAllowsAll, WidestServesAll};
+ghost use Rattle.run_records.specs.Laws.{CalleesMayChange, Composes, GivesRows, Narrows, ServesItself, WidestAllowsAll, WidestIsKept, WidestServesAll};
 
 /// What serves what serves a behaviour serves it, and each serves itself. So passes compose.
 pub fn composes_law()
@@ -35,8 +35,10 @@ pub fn callees_law()
     ensures { CalleesMayChange }
 {}
 
-/// Under the widest record only a world with the same storage stands in, and what serves under it serves under every record.
+/// Under the widest record only a world with the same storage stands in, each call that answers a row keeps to it, and what
+/// serves under it serves under every record.
 pub fn widest_law()
     ensures allows { WidestAllowsAll }
+    ensures kept { WidestIsKept }
     ensures serves { WidestServesAll }
 {}

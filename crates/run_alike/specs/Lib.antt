@@ -1,0 +1,3 @@
+pub mod Like
+pub mod Alike
+pub mod Laws
