@@ -1,2 +1,4 @@
 pub mod Served
 pub mod Solved
+pub mod Sample
+pub mod Shown

@@ -1,3 +1,4 @@
 pub mod Bodies
 pub mod Spent
+pub mod Example
 pub mod Laws

@@ -6,9 +6,16 @@
 //! - `Bodies`: a body as a behaviour, when it is of a unit (`IsOf`), `BodyServes`, `BodyKeeps`, `Follows`.
 //! - `Spent`: a body has nothing left that the passes could take: the greatest constants, the greatest copies and the
 //!   least live items along its walks, and what they must not show.
+//! - `Example`: the example of `docs/SERVES.md`.
 //! - `Laws`: what the functions below say.
 #![tactic(auto)]
 
+/// The body of the example in `docs/SERVES.md` serves its unit under the record that stands there, and not where the call may
+/// read every item.
+pub fn example_law()
+    ensures serves { ExampleServes }
+    ensures needs { ExampleNeedsItsRecord }
+ghost use Rattle.body_serves.specs.Example.{ExampleNeedsItsRecord, ExampleServes};
 ghost use Rattle.body_serves.specs.Laws.{BodiesDependOnTheirCalls, BodiesServeFurther, BodiesServeTogether, FollowingServes, PassesCompose, RunIsBehaviour, SolutionsAreOne};
 
 /// A body's run is its behaviour, and it depends on its handler at its calls alone.
