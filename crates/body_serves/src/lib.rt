@@ -10,11 +10,6 @@
 //! - `Laws`: what the functions below say.
 #![tactic(auto)]
 
-/// The body of the example in `docs/SERVES.md` serves its unit under the record that stands there, and not where the call may
-/// read every item.
-pub fn example_law()
-    ensures serves { ExampleServes }
-    ensures needs { ExampleNeedsItsRecord }
 ghost use Rattle.body_serves.specs.Example.{ExampleNeedsItsRecord, ExampleServes};
 ghost use Rattle.body_serves.specs.Laws.{BodiesDependOnTheirCalls, BodiesServeFurther, BodiesServeTogether, FollowingServes, PassesCompose, RunIsBehaviour, SolutionsAreOne};
 
@@ -45,4 +40,11 @@ pub fn objects_law()
 /// Of the greatest constants, the greatest copies and the least live items there is one each, at the points that a walk reaches.
 pub fn spent_law()
     ensures { SolutionsAreOne }
+{}
+
+/// The body of the example in `docs/SERVES.md` serves its unit under the record that stands there, and not where the call may
+/// read every item.
+pub fn example_law()
+    ensures serves { ExampleServes }
+    ensures needs { ExampleNeedsItsRecord }
 {}
