@@ -1,3 +1,5 @@
 pub mod Steps
 pub mod StepLaws
 pub mod Walks
+pub mod Relation
+pub mod Passes

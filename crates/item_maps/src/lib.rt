@@ -9,8 +9,10 @@
 #![tactic(auto)]
 
 mod constants;
+mod pairs;
 mod step;
 mod walk;
 
 pub use constants::Constants;
+pub use pairs::Pairs;
 pub use step::Step;

@@ -22,6 +22,10 @@ made f = walk cmp f false false
 abbrev pub leq : List Bound → List Bound → Bool
 leq ps qs = is_empty (made first_alone ps qs)
 
+-- whether the two have a member in common
+abbrev pub meets : List Bound → List Bound → Bool
+meets ps qs = not (is_empty (made both ps qs))
+
 -- the ends of runs rise, so no two runs touch; and nothing is a member but items
 pub record IsSet (ps : List Bound) : Type 0 where
   pub rising : IsTrue (rises cmp ps)

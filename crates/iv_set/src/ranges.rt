@@ -3,7 +3,7 @@ ghost use Rattle.std.specs.Prelude.{◌≡◌, [], IsTrue, IsFalse, IfOk, IfErr,
 ghost use Rattle.rn_lattice.specs.Order.{IsJoin};
 ghost use Rattle.iv_set.specs.Toggles.{either, both, first_alone};
 ghost use Rattle.iv_set.specs.Places.{place_of, is_item, IsRun, between, run};
-ghost use Rattle.iv_set.specs.Sets.{has_item, leq, made, IsSet};
+ghost use Rattle.iv_set.specs.Sets.{has_item, leq, made, meets, IsSet};
 ghost use Rattle.iv_set.specs.Walks.{touches, ends_before};
 ghost use Rattle.iv_set.specs.Least.{IsLeast};
 
@@ -58,7 +58,8 @@ impl Ranges {
 
     /// The same set again.
     pub fn copy(&self, alloc: Global) -> Result<Ranges, AllocError>
-        ensures { IfOk result (λ again. again ≡ self.now) }
+        ensures same { IfOk result (λ again. again ≡ self.now) }
+        ensures set { IsSet self.now }
     {
         Ok(Ranges {
             bounds: copies(alloc, &self.bounds)?,
@@ -94,6 +95,7 @@ impl Ranges {
 
     /// Whether the two sets have a member in common.
     pub fn meets(&self, other: &Ranges) -> bool
+        ensures answer { result ≡ meets self.now other.now }
         ensures apart { IsFalse result → (i : Item) → both (has_item self.now i) (has_item other.now i) ≡ false }
         ensures only { ((i : Item) → both (has_item self.now i) (has_item other.now i) ≡ false) → IsFalse result }
     {
@@ -128,6 +130,15 @@ impl Ranges {
         Ok(Ranges {
             bounds: combined(alloc, Rule::Either, &self.bounds, &other.bounds)?,
         })
+    }
+
+    /// Adds the members of the other set. Where there was no memory, the set is as it was.
+    pub fn unite(&mut self, alloc: Global, other: &Ranges) -> Result<(), AllocError>
+        ensures united { IfOk result (λ _. (i : Item) → has_item self.new i ≡ either (has_item self.old i) (has_item other.now i)) }
+        ensures kept { IfErr result (λ _. self.new ≡ self.old) }
+    {
+        *self = self.union(alloc, other)?;
+        Ok(())
     }
 
     // The items from one end to the other.
@@ -167,7 +178,7 @@ impl Ranges {
     }
 
     // Adds a run anywhere.
-    fn unite(&mut self, alloc: Global, from: &Item, to: &Item) -> Result<(), AllocError>
+    fn add_anywhere(&mut self, alloc: Global, from: &Item, to: &Item) -> Result<(), AllocError>
         requires { IsRun from.now to.now }
         ensures union { IfOk result (λ _. self.new ≡ made either self.old (run from.now to.now)) }
         ensures fits { IfOk result (λ _. IsTrue (is_item (place_of to.now))) }
@@ -192,7 +203,7 @@ impl Ranges {
         if ends_before(&self.bounds, from) {
             return self.add_behind(alloc, from, to);
         }
-        self.unite(alloc, from, to)
+        self.add_anywhere(alloc, from, to)
     }
 
     /// Adds each item from one end to the other. Where there was no memory, the set is as it was.
