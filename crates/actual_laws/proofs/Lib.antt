@@ -1,3 +1,4 @@
 pub mod Sites
 pub mod Shapes
 pub mod Programs
+pub mod Types
