@@ -1,4 +1,4 @@
+pub mod Types
 pub mod Sites
 pub mod Shapes
 pub mod Programs
-pub mod Types

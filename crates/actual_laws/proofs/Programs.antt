@@ -1,6 +1,5 @@
 -- What each site of an accepted program passes fits its callee.
 use Rattle.std.proofs.Common.{◌≡◌, ℕ, suc, ◌==◌, Bool, false, not, ◌&&◌, ◌||◌, Option, Some, None, List, [], ◌∷◌, length, map, zip, slice_get, refl, sym, ap, ◌∙◌, subst, arith, is_some}
-use Rattle.std.proofs.Common.{◌≡◌, ℕ, suc, ◌==◌, Bool, false, not, ◌||◌, Option, Some, None, List, [], ◌∷◌, length, map, zip, slice_get, refl, sym, ap, ◌∙◌, subst, arith, is_some}
 use Rattle.std.specs.List.{list_any}
 use Rattle.std.proofs.lemmas.Bool.{eqb-true}
 use Rattle.f77_tree.specs.declared.expr.Expr.{Expr, out-Expr}
@@ -8,7 +7,6 @@ use Rattle.f77_tree.specs.declared.unit.Unit.{Unit as SourceUnit}
 use Rattle.f77_names.specs.declared.roles.Role.{Role}
 use Rattle.f77_names.specs.declared.roles.Role.TheVariants as roles
 use Rattle.f77_names.specs.Roles.{facts, role, type_of}
-use Rattle.f77_names.specs.Roles.{facts, role}
 use Rattle.f77_values.specs.Tables.{Name}
 use Rattle.f77_semantics.specs.Program.{Term, Literal, Text, Variable, Element, Whole, Reference, Apply, Paren, Negative, Plus, Not, Binary, NoTerm, Terms, End, ◌and◌, Statement, Assign, If, LogicalIf, ArithmeticIf, GoTo, ComputedGoTo, Do, Continue, Call, Return, Stop, Print, Read, NoStatement}
 use Rattle.f77_semantics.specs.Terms.{term_from, resolved}
@@ -27,12 +25,10 @@ use Rattle.prog_texts.specs.Signatures.{shape, dummy, signature, signatures, uni
 use Rattle.prog_check.specs.declared.checks.Check.{Check}
 use Rattle.prog_check.specs.declared.checks.Check.TheVariants as check
 use Rattle.prog_check.specs.Checks.{differs, is_misshapen, is_mistyped, is_misfit, has_misfit, miscounts, misfits, shows, line_of, number_of}
-use Rattle.prog_check.specs.Checks.{is_misshapen, is_mistyped, is_misfit, has_misfit, miscounts, misfits, shows, line_of, number_of}
 use Rattle.prog_check.specs.ProgramFaults.{IsAccepted, calls as of_calls, text, by_text}
 use Rattle.check_types.specs.ExpressionTypes.{expression_type}
 use Rattle.f77_tree.specs.declared.unit.Ty.{Ty}
 use Rattle.sound_units.specs.Units.{meant_of, effects}
-use Rattle.sound_units.specs.Units.{meant_of}
 use Rattle.sound_units.specs.Accepted.{IsGood}
 use Rattle.sound_units.proofs.Entering.{names_fit}
 use Rattle.sound_units.proofs.Excluding.{functions_agree}
@@ -41,21 +37,11 @@ use Rattle.sound_units.proofs.Lists.{untrue, or_left, or_right, not_false}
 use Rattle.sound_units.proofs.Naming.{HasUnit, unit_known}
 use Rattle.actual_laws.specs.Calls.{InTerm, InTerms, InOptional, InStatement}
 use Rattle.actual_laws.specs.Fits.{FitsRole, FitsType, AllFit, SiteFits}
-use Rattle.actual_laws.specs.Fits.{FitsRole, AllFit, SiteFits}
 use Rattle.actual_laws.specs.Laws.{ActualsFitDummies}
 use Rattle.actual_laws.proofs.Sites.{Passed, AllTyped, calls_passed}
 use Rattle.actual_laws.proofs.Types.{TypedAt}
-use Rattle.actual_laws.proofs.Sites.{Passed, calls_passed}
 use Rattle.actual_laws.proofs.Shapes.{shaped}
 
-  all_fit : (ds : List Name) (es : List Expr) (s : ℕ) → AllTyped u es s → length (map (said.actual (facts u)) es) ≡ length (map (dummy (facts v)) ds)
-      → list_any (λ (a : Actual). a.is_procedure) (map (said.actual (facts u)) es) ≡ false → has_misfit (map (dummy (facts v)) ds) (map (said.actual (facts u)) es) ≡ false → AllFit u v ds (terms (meant_of u) es s)
-  all_fit [] [] s t l q h = tt
-  all_fit (d ∷ ds) (e ∷ es) s t l q h =
-  -- a dummy's type, where the actual is no procedure
-  type_fits : (o : Option Ty) (e : Expr) (s : ℕ) → TypedAt u e s → said.is_procedure (facts u) (out-Expr e) ≡ false → (not (said.is_procedure (facts u) (out-Expr e)) && differs o (expression_type (facts u) e)) ≡ false → FitsType (effects u) o (term_from s (resolved (meant_of u) e))
-  type_fits None e s t q h = tt
-  type_fits (Some ty) e s t q h = t ty (sym (ap (λ b. not b && differs (Some ty) (expression_type (facts u) e)) q) ∙ h)
 -- ---- what holds of calls for another reason
 
 module _ (P Q : ℕ → Terms → Type 0) (g : (s : ℕ) (es : Terms) → P s es → Q s es) where
@@ -107,9 +93,15 @@ module _ (u v : SourceUnit) where
   one_fits roles.Scalar e s h = (shaped u e s).0 h
   one_fits r e s h = tt
 
-  all_fit : (ds : List Name) (es : List Expr) (s : ℕ) → length (map (said.actual (facts u)) es) ≡ length (map (dummy (facts v)) ds) → has_misfit (map (dummy (facts v)) ds) (map (said.actual (facts u)) es) ≡ false → AllFit v ds (terms (meant_of u) es s)
-  all_fit [] [] s l h = tt
-  all_fit (d ∷ ds) (e ∷ es) s l h =
+  -- a dummy's type, where the actual is no procedure
+  type_fits : (o : Option Ty) (e : Expr) (s : ℕ) → TypedAt u e s → said.is_procedure (facts u) (out-Expr e) ≡ false → (not (said.is_procedure (facts u) (out-Expr e)) && differs o (expression_type (facts u) e)) ≡ false → FitsType (effects u) o (term_from s (resolved (meant_of u) e))
+  type_fits None e s t q h = tt
+  type_fits (Some ty) e s t q h = t ty (sym (ap (λ b. not b && differs (Some ty) (expression_type (facts u) e)) q) ∙ h)
+
+  all_fit : (ds : List Name) (es : List Expr) (s : ℕ) → AllTyped u es s → length (map (said.actual (facts u)) es) ≡ length (map (dummy (facts v)) ds)
+      → list_any (λ (a : Actual). a.is_procedure) (map (said.actual (facts u)) es) ≡ false → has_misfit (map (dummy (facts v)) ds) (map (said.actual (facts u)) es) ≡ false → AllFit u v ds (terms (meant_of u) es s)
+  all_fit [] [] s t l q h = tt
+  all_fit (d ∷ ds) (e ∷ es) s t l q h =
       let pair : Dummy × Actual = (dummy (facts v) d, said.actual (facts u) e) in
       let rest : Bool = list_any is_misfit (zip (map (dummy (facts v)) ds) (map (said.actual (facts u)) es)) in
       let quiet : Bool = list_any (λ (a : Actual). a.is_procedure) (map (said.actual (facts u)) es) in
@@ -120,9 +112,6 @@ module _ (u v : SourceUnit) where
       )
   all_fit [] (e ∷ es) s t l q h = absurd (omega (arith, l))
   all_fit (d ∷ ds) [] s t l q h = absurd (omega (arith, l))
-      (one_fits (role (facts v) d) e s (or_right (is_mistyped pair.0 pair.1) (is_misshapen pair.0.shape pair.1) (or_left (is_misfit pair) rest h)), all_fit ds es _ (omega (arith, l)) (or_right (is_misfit pair) rest h))
-  all_fit [] (e ∷ es) s l h = absurd (omega (arith, l))
-  all_fit (d ∷ ds) [] s l h = absurd (omega (arith, l))
 
 module _ (units : List SourceUnit) (accepted : IsAccepted units) (place : ℕ) (u : SourceUnit) (stands : slice_get units place ≡ Some u) where
   -- what is said shows no fault
@@ -150,14 +139,10 @@ module _ (units : List SourceUnit) (accepted : IsAccepted units) (place : ℕ) (
         called = x.called ∙ ap Some (sym v.name_is);
         fits = subst (AllFit u v.unit v.unit.dummies) (sym x.terms_are)
             (all_fit u v.unit v.unit.dummies x.expressions (suc s) x.typed (ap length (sym x.actuals_are) ∙ same_count (length x.site.actuals) (length (map (dummy (facts v.unit)) v.unit.dummies)) counts) (subst (λ a. list_any (λ (a : Actual). a.is_procedure) a ≡ false) x.actuals_are (quiet check.Procedure x.says.at (Site x.site) x.says.is)) (subst (λ a. has_misfit (map (dummy (facts v.unit)) v.unit.dummies) a ≡ false) x.actuals_are fit));
-        fits = subst (AllFit v.unit v.unit.dummies) (sym x.terms_are)
-            (all_fit u v.unit v.unit.dummies x.expressions (suc s) (ap length (sym x.actuals_are) ∙ same_count (length x.site.actuals) (length (map (dummy (facts v.unit)) v.unit.dummies)) counts) (subst (λ a. has_misfit (map (dummy (facts v.unit)) v.unit.dummies) a ≡ false) x.actuals_are fit));
       }
 
 pub actuals_fit : ActualsFitDummies
 actuals_fit units good differ accepted place u stands k =
-actuals_fit units good accepted place u stands k =
     let x : IsGood u = good place u stands in
     statement_weaker (Passed u) (SiteFits units u) (site_fits units accepted place u stands) (statement (routine u) k)
     (calls_passed u (functions_agree u x.sound x.text) (names_fit u x.sound x.text (no_procedure units good differ accepted place u stands)) k)
-    statement_weaker (Passed u) (SiteFits units u) (site_fits units accepted place u stands) (statement (routine u) k) (calls_passed u (functions_agree u x.sound x.text) k)

@@ -49,4 +49,5 @@ IsOf u l = is_of (parts_of u) l ≡ true
 
 -- Where each dummy has an actual argument, the body does act by act what the unit does, and the entry's work in its first step.
 abbrev pub Follows : Unit → Listing → Type 0
-Follows u l = (ds : List Interval) → ((x : Item) → is_own u x ≡ true → Stands (associate u ds) x) → EntersAlike (entry (entered (routine u) ds) (routine u).dummy_arrays) (turn (routine u)) (λ f. beginning (routine u)) (body_turn (activated (routine u) ds) l) entrance
+Follows u l = (ds : List Interval) → ((x : Item) → is_own u x ≡ true → Stands (associate u ds) x)
+    → EntersAlike (entry (entered (routine u) ds) (routine u).dummy_arrays) (turn (routine u)) (λ f. beginning (routine u)) (body_turn (activated (routine u) ds) l) entrance

@@ -67,6 +67,9 @@ BodiesServeTogether = (units : List Unit) (main : Unit) → main_of units ≡ So
 
 -- Each of the three solutions by which a body is spent is one.
 pub record SolutionsAreOne : Type 0 where
-  pub constants : (r : Record) (l : Listing) (known other : Known) → IsGreatest r l known → IsGreatest r l other → (p : Point) → IsPoint l p → (h : Holder) → known p h ≡ other p h
-  pub copies : (r : Record) (l : Listing) (copies other : Copies) → AreAllCopies r l copies → AreAllCopies r l other → (p : Point) → IsPoint l p → (x : Item) (t : ℕ) → copies p x t ≡ other p x t
-  pub lives : (r : Record) (l : Listing) (live other : Lives) → IsLeast r l live → IsLeast r l other → (p : Point) → IsPoint l p → (x : Item) → live p x ≡ other p x
+  pub constants : (r : Record) (l : Listing) (known other : Known) → IsGreatest r l known → IsGreatest r l other
+      → (p : Point) → IsPoint l p → (h : Holder) → known p h ≡ other p h
+  pub copies : (r : Record) (l : Listing) (copies other : Copies) → AreAllCopies r l copies → AreAllCopies r l other
+      → (p : Point) → IsPoint l p → (x : Item) (t : ℕ) → copies p x t ≡ other p x t
+  pub lives : (r : Record) (l : Listing) (live other : Lives) → IsLeast r l live → IsLeast r l other
+      → (p : Point) → IsPoint l p → (x : Item) → live p x ≡ other p x

@@ -17,9 +17,12 @@ pub record ActsDependOnTheirCalls : Type 0 where
   pub alike : (h g : Handler) (a : Act ℕ) (w : World) → Each (AnswersAlike h g) (calls_of h a w) → SameRun (play h a w) (play g a w)
 
 pub record TurnsDependOnTheirCalls : Type 0 where
-  pub same_run : (h g : Handler) (turn : ℕ → Act (After ℕ)) (s : ℕ) (w : World) → Each (AnswersSame h g) (calls_from h turn s w) → run_from g turn s w ≡ run_from h turn s w
-  pub same_calls : (h g : Handler) (turn : ℕ → Act (After ℕ)) (s : ℕ) (w : World) → Each (AnswersSame h g) (calls_from h turn s w) → calls_from g turn s w ≡ calls_from h turn s w
-  pub alike : (h g : Handler) (turn : ℕ → Act (After ℕ)) (s : ℕ) (w : World) → Each (AnswersAlike h g) (calls_from h turn s w) → SameRun (run_from h turn s w) (run_from g turn s w)
+  pub same_run : (h g : Handler) (turn : ℕ → Act (After ℕ)) (s : ℕ) (w : World) → Each (AnswersSame h g) (calls_from h turn s w)
+      → run_from g turn s w ≡ run_from h turn s w
+  pub same_calls : (h g : Handler) (turn : ℕ → Act (After ℕ)) (s : ℕ) (w : World) → Each (AnswersSame h g) (calls_from h turn s w)
+      → calls_from g turn s w ≡ calls_from h turn s w
+  pub alike : (h g : Handler) (turn : ℕ → Act (After ℕ)) (s : ℕ) (w : World) → Each (AnswersAlike h g) (calls_from h turn s w)
+      → SameRun (run_from h turn s w) (run_from g turn s w)
 
 abbrev pub ActivationsDependOnTheirCalls : Type 0
 ActivationsDependOnTheirCalls = (entry : List Interval → Act ℕ) (turn : ℕ → ℕ → Act (After ℕ)) (start : ℕ → ℕ) → DependsOnItsCalls (activation entry turn start)

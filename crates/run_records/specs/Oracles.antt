@@ -65,4 +65,6 @@ pub record RunsAs (associate : List Interval → Association) (r : Record) (a b 
 
 -- to serve under every call oracle and every entry
 abbrev pub ServesByRows : (List Interval → Association) → Record → Behaviour → Behaviour → Type 0
-ServesByRows associate r a b = (lines : List Line) (h : Handler) (ds : List Interval) (w : World) → LinesBound r (associate ds) lines → IsOracle r (associate ds) lines h → IsEntry r (associate ds) w → RunsAs associate r a b h ds w
+ServesByRows associate r a b = (lines : List Line) (h : Handler) (ds : List Interval) (w : World)
+    → LinesBound r (associate ds) lines → IsOracle r (associate ds) lines h → IsEntry r (associate ds) w
+    → RunsAs associate r a b h ds w

@@ -24,5 +24,7 @@ SameCalls r place (c ∷ cs) [] = ⊥
 -- makes. Then the second runs as the first, as far as that is defined: it prints, reads, ends and takes steps as it does, returns with the
 -- same answer and the same storage, and makes the same calls, from storage that differs at most in what isn't read through.
 pub record Serves (associate : List Interval → Association) (r : Record) (a b : Behaviour) : Type 0 where
-  pub same_run : (h : Handler) (ds : List Interval) (w : World) → IsEntry r (associate ds) w → Each (Respects r (associate ds) h) (a.calls h ds w) → SameRun (a.run h ds w) (b.run h ds w)
-  pub same_calls : (h : Handler) (ds : List Interval) (w : World) → IsEntry r (associate ds) w → Each (Respects r (associate ds) h) (a.calls h ds w) → IfDefined (a.run h ds w) (SameCalls r (associate ds) (a.calls h ds w) (b.calls h ds w))
+  pub same_run : (h : Handler) (ds : List Interval) (w : World) → IsEntry r (associate ds) w → Each (Respects r (associate ds) h) (a.calls h ds w)
+      → SameRun (a.run h ds w) (b.run h ds w)
+  pub same_calls : (h : Handler) (ds : List Interval) (w : World) → IsEntry r (associate ds) w → Each (Respects r (associate ds) h) (a.calls h ds w)
+      → IfDefined (a.run h ds w) (SameCalls r (associate ds) (a.calls h ds w) (b.calls h ds w))

@@ -32,7 +32,8 @@ HoldAlong units places records zero q ds w = Unit {0}
 HoldAlong units places records (suc d) q ds w =
     IsEntry (records q) (places q ds) (cleared (units q) w)
     × IfDefined (meaning units (suc d) q ds w) (Each (Respects (records q) (places q ds) (callees_at units d q)) (calls_in units d q ds w))
-    × IfDefined (meaning units (suc d) q ds w) (Each (λ c. (v : World) → StandsIn (records q) (places q ds) c.site c.world v → HoldAlong units places records d (callee (units q) c.site) c.actuals v) (calls_in units d q ds w))
+    × IfDefined (meaning units (suc d) q ds w)
+    (Each (λ c. (v : World) → StandsIn (records q) (places q ds) c.site c.world v → HoldAlong units places records d (callee (units q) c.site) c.actuals v) (calls_in units d q ds w))
 
 -- what the behaviours make of a program with an input, just before step n + 1 would begin
 abbrev pub serving_run : (Name → Behaviour) → List Routine → (main : Routine) → List ℤ → ℕ → Run
