@@ -1,0 +1,5 @@
+pub mod Tokens
+pub mod Expressions
+pub mod Parts
+pub mod Forms
+pub mod Trees
