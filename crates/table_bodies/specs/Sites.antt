@@ -1,7 +1,7 @@
 -- What the sites of a table's bodies call.
 use Rattle.std.specs.Prelude.{ℕ, List, [], ◌∷◌, Some, None, pos, nat_eq, length, if◌then◌else◌}
 use Rattle.run_model.specs.Storage.{Integer, Logical, Loc, Interval}
-use Rattle.run_model.specs.Acts.{Act, Done, Get, Put, Fail, Ended, Stuck, and_then, ◌>>=◌, Answer, Handler, play, no_calls}
+use Rattle.run_model.specs.Acts.{Act, Done, Get, Put, Fail, Ended, Stuck, ◌>>=◌, Answer, Handler, play, no_calls}
 
 abbrev pub first : List Interval → Act Loc
 first [] = Fail Stuck
