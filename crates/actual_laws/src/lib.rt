@@ -9,10 +9,12 @@
 //! - an actual has the type of the dummy: a variable and an element the type that their cells are read with, a
 //!   reference that of its site. The array of a name has no type in a routine, so nothing is said of it.
 //!
-//! So a run never looks for a dummy that has no actual, and faults 30, 31 and 32 can't be dropped from the checks
-//! without this law failing. The site's expressions are those that the unit tells the program (`prog_texts`), and the
-//! checks of the program find no fault at it (`proofs/Sites`). What a name stands for tells an array from a scalar
-//! (`proofs/Shapes`), and an expression resolves to a term of its type (`proofs/Types`).
+//! So faults 30, 31 and 32 can't be dropped from the checks without this law failing. It speaks of statements: that the
+//! bounds of dummy arrays call nothing, and that a main program has no dummies, isn't said here.
+//!
+//! The site's expressions are those that the unit tells the program (`prog_texts`), and the checks of the program find
+//! no fault at it (`proofs/Sites`). What a name stands for tells an array from a scalar (`proofs/Shapes`), and an
+//! expression resolves to a term of its type (`proofs/Types`).
 #![tactic(auto)]
 
 ghost use Rattle.actual_laws.specs.Laws.{ActualsFitDummies};
